@@ -1,0 +1,4 @@
+pub mod Xor
+pub mod Tab
+pub mod Linear
+pub mod Words
