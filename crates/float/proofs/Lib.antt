@@ -1,0 +1,13 @@
+-- Laws that belong to no one function.
+pub mod BitLaws
+pub mod Patterns
+pub mod Keys
+pub mod Within
+pub mod Bounds
+pub mod Singles
+pub mod Additions
+pub mod Numbers
+pub mod Squares
+pub mod Scales
+pub mod SquareRoot
+pub mod Examples

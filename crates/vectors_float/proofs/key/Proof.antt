@@ -1,0 +1,13 @@
+use Rattle.float.proofs.BitLaws.{number-of-ne}
+use borrow.Author.Needs.{needs}
+use Rattle.vectors_float.proofs.key.Statement.{statement}
+use Rattle.vectors_float.proofs.key.Tie as tie
+
+pub key-spec : {M : Type 1} → statement M
+key-spec = tie.close (tie.spec
+    (λ c. search needs)
+    (λ c κs. search needs)
+    (λ c κs. number-of-ne (c .before .args .x) (c .if1 .left))
+    (λ c κs. search needs)
+    (λ c. search needs)
+    (λ c. search needs))
