@@ -1,0 +1,15 @@
+pub mod Members
+pub mod Sort
+pub mod Least
+pub mod Numbers
+pub mod ByKey
+pub mod Shared
+pub mod Limit
+pub mod Rows
+pub mod Pairs
+pub mod Order
+pub mod Sift
+pub mod Down
+pub mod Bounded
+pub mod Two
+pub mod Scan

@@ -1,0 +1,10 @@
+-- The eligible rows of a library. Document 01, The report: "the eligible count is that of the library's rows whose id
+-- is among them, each once." Assumes nothing.
+use mathlib.Core.Bool.{Bool, cond}
+use mathlib.Core.List.{List, [], _∷_, _++_}
+use Prim.Native.Nat.{ℕ, zero, suc}
+
+-- the rows below n that pass the test, in rising order
+abbrev pub passing : (ℕ → Bool) → ℕ → List ℕ
+passing ok zero = []
+passing ok (suc n) = cond (ok n) (passing ok n ++ n ∷ []) (passing ok n)
