@@ -1,0 +1,44 @@
+-- The vector test (document 01, table: 16, "query count, non-finite value, zero query under cosine", and the same of a record at
+-- 5; config.rs, `validate_vector`), and the floats in a record's bytes (Layouts: "A record is id, metadata length, f32 coordinates").
+use mathlib.Core.Bool.{Bool, true, not, _&&_}
+use mathlib.Core.List.{List, [], _∷_, map}
+use Prim.Native.Nat.{ℕ, zero, suc, _+_, _%_, max}
+use lib.Dec.{eqb}
+use lib.ListN.{length}
+use lib.Ieee.{Float, binary32, ofBits, eq}
+use lib.Ieee.Scale.{finite}
+use Rattle.le.specs.Le.{leAt}
+use Rattle.float.specs.Values.{zero as nought}
+use Rattle.config.specs.Metric.{isCosine}
+use Rattle.config.specs.declared.Metric.{Metric}
+
+-- every element passes
+unfoldable pub all : {A : Type 0} → (A → Bool) → List A → Bool
+all test [] = true
+all test (x ∷ v) = test x && all test v
+
+abbrev pub finites : List Float → Bool
+finites v = all finite v
+
+-- all zero, -0.0 being zero
+abbrev pub zeros : List Float → Bool
+zeros v = all (λ x. eq x nought) v
+
+unfoldable pub validVector : Metric → ℕ → List Float → Bool
+validVector metric dimensions v = eqb (length v) dimensions && finites v && not (isCosine metric && zeros v)
+
+-- the patterns of n f32 from a place on, and their values
+unfoldable pub patternsAt : ℕ → List ℕ → ℕ → List ℕ
+patternsAt zero s at = []
+patternsAt (suc n) s at = leAt 4 s at ∷ patternsAt n s (at + 4)
+
+abbrev pub floatsAt : ℕ → List ℕ → ℕ → List Float
+floatsAt n s at = map (ofBits binary32) (patternsAt n s at)
+
+-- the largest pattern without its sign, and most if none is above it
+unfoldable pub largestFrom : ℕ → List ℕ → ℕ
+largestFrom most [] = most
+largestFrom most (b ∷ bs) = largestFrom (max most (b % 2147483648)) bs
+
+abbrev pub largestBits : List ℕ → ℕ
+largestBits bs = largestFrom 0 bs
