@@ -1,12 +1,13 @@
 -- A table whose entry k is g k: read, and filled from the front. Assumes nothing.
 use mathlib.Core.Path.{_≡_, refl, ap, _∙_, sym}
-use mathlib.Core.Logic.{_⊎_, inl, inr, ⊎-elim}
+use mathlib.Core.Logic.{⊎-elim}
 use mathlib.Core.List.{List}
-use Prim.Native.Nat.{ℕ, zero, suc, _+_, _<_, _≤_, zero-le, suc-le-suc}
+use Prim.Native.Nat.{ℕ, zero, suc, _+_, _<_, _≤_}
 use native.Mathlib.Nat.{add-zero, zero-add, add-suc, suc-add, le-of-suc-le-suc, not-suc-le-zero}
 use native.Mathlib.Omega.{arith}
 use lib.ListN.{length, getD, set, length-set}
 use lib.Seq.{ext-getD, getD-set-same, getD-set-other}
+use Rattle.le.proofs.Chain.{lt-or-le}
 use Rattle.crc32.specs.Tables.{tab, Filled}
 
 from : (g : ℕ → ℕ) (i n k : ℕ) → k < n → getD (tab g i n) k 0 ≡ g (i + k)
@@ -20,11 +21,6 @@ at g n k h = from g 0 n k h ∙ ap g (zero-add k)
 length-tab : (g : ℕ → ℕ) (i n : ℕ) → length (tab g i n) ≡ n
 length-tab g i zero = refl
 length-tab g i (suc n) = ap suc (length-tab g (suc i) n)
-
-lt-or-le : (a b : ℕ) → (a < b) ⊎ (b ≤ a)
-lt-or-le a zero = inr zero-le
-lt-or-le zero (suc b) = inl (suc-le-suc zero-le)
-lt-or-le (suc a) (suc b) = ⊎-elim (λ p. inl (suc-le-suc p)) (λ q. inr (suc-le-suc q)) (lt-or-le a b)
 
 module _ {g : ℕ → ℕ} {n : ℕ} where
   pub filled-more : {t : List ℕ} {i v : ℕ} → Filled g n t i → i < n → v ≡ g i → Filled g n (set t i v) (i + 1)

@@ -16,9 +16,6 @@ leb-order = record {
   total = λ {x} {y} p. le-leb y x (omega (arith, leb-false x y p));
 }
 
-pub lt-or-le : (a b : ℕ) → (a < b) ⊎ (b ≤ a)
-lt-or-le a b = by (ltb a b) (λ e. inl (ltb-true a b e)) (λ e. inr (ltb-false a b e))
-
 pub eq-or-ne : (a b : ℕ) → (a ≡ b) ⊎ (a ≢ b)
 eq-or-ne a b = by (eqb a b) (λ e. inl (eqb-true a b e)) (λ e. inr (eqb-false a b e))
 

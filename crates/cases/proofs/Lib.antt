@@ -1,0 +1,2 @@
+-- Document 01's lettered cases.
+pub mod Cases

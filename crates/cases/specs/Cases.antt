@@ -1,0 +1,58 @@
+-- The lettered cases of document 01, Contracts and proved cases: one list, each entry in its words.
+use mathlib.Core.Path.{_≡_}
+use mathlib.Core.Bool.{Bool, true, false}
+use mathlib.Core.List.{List, [], _∷_}
+use Prim.Native.Nat.{ℕ}
+use lib.IntN.{ℤ, pos, negsuc}
+use lib.Ieee.{Float, fin, binary64, ofBits}
+use Rattle.float.specs.Values.{zero, one, two}
+use Rattle.config.specs.Refusal.{refused}
+use Rattle.config.specs.declared.Metric.the-variants.{SquaredL2, Cosine, InnerProduct}
+use Rattle.quantization.specs.View.{View}
+use Rattle.quantization.specs.Encoder.{encode, codeOf, midpoints}
+use Rattle.math.specs.Distance.{original}
+use Rattle.row.specs.Distance.{approximate}
+use Rattle.row.specs.Answer.{rowAnswer}
+use Rattle.row.specs.declared.RowAnswer.the-variants.{Refused}
+
+-- the whole number n, and n halves
+abbrev whole : ℕ → Float
+whole n = fin false n (pos 0)
+
+abbrev half : Bool → Float
+half s = fin s 1 (negsuc 0)
+
+abbrev minusZero : Float
+minusZero = fin true 0 (pos 0)
+
+abbrev row : Float → ℕ → List ℤ → View
+row s n cs = record { scale = s; norm = pos n; codes = cs }
+
+-- of the base: 127 levels and their midpoints
+abbrev encoded : List Float → View
+encoded v = encode 127 midpoints v
+
+-- 1e200
+abbrev large : Float
+large = ofBits binary64 0x6974E718D7D7625A
+
+pub record Cases : Type 0 where
+  -- "(127, 0.5, -0.5): scale 1, codes 127, 1, -1, norm 16131"
+  pub a : encoded (whole 127 ∷ half false ∷ half true ∷ []) ≡ row one 16131 (pos 127 ∷ pos 1 ∷ negsuc 0 ∷ [])
+  -- "(254, 1, -1, 3): scale 2, codes 127, 1, -1, 2, norm 16135"
+  pub b : encoded (fin false 127 (pos 1) ∷ one ∷ fin true 1 (pos 0) ∷ whole 3 ∷ []) ≡ row two 16135 (pos 127 ∷ pos 1 ∷ negsuc 0 ∷ pos 2 ∷ [])
+  -- "Zero, two coordinates: scale 1, norm 0"
+  pub c : encoded (zero ∷ zero ∷ []) ≡ row one 0 (pos 0 ∷ pos 0 ∷ [])
+  -- "L2, row (127, 0), query (0, 127): both distances 32258"
+  pub d-approximate : approximate SquaredL2 (encoded (whole 127 ∷ zero ∷ [])) (encoded (zero ∷ whole 127 ∷ [])) ≡ fin false 16129 (pos 1)
+  pub d-original : original SquaredL2 (zero ∷ whole 127 ∷ []) (whole 127 ∷ zero ∷ []) ≡ fin false 16129 (pos 1)
+  -- "Cosine, (127, 0) with itself: approximate +0"
+  pub e : approximate Cosine (encoded (whole 127 ∷ zero ∷ [])) (encoded (whole 127 ∷ zero ∷ [])) ≡ zero
+  -- "Inner product, query (1): original distance of record (+0) is -0.0, of record (-0) +0.0"
+  pub f-plus : original InnerProduct (one ∷ []) (zero ∷ []) ≡ minusZero
+  pub f-minus : original InnerProduct (one ∷ []) (minusZero ∷ []) ≡ zero
+  -- "L2, scale 1e200, norm 0: approximate +0. With norm 1 and a zero query: 22"
+  pub g-plus : approximate SquaredL2 (row large 0 (pos 0 ∷ [])) (encoded (whole 127 ∷ [])) ≡ zero
+  pub g-refused : (place : ℕ) → rowAnswer 127 SquaredL2 true place (row large 1 (pos 1 ∷ [])) (encoded (zero ∷ [])) ≡ Refused (refused 22 place)
+  -- Plausible misreadings: a quotient of "0.49999999999999994 must give 0"
+  pub below-half : codeOf midpoints (ofBits binary64 0x3FDFFFFFFFFFFFFF) ≡ pos 0

@@ -1,0 +1,188 @@
+-- Sums over the codes of a row, taken in parts. The laws are over lists of integers: of a cached row they are taken at
+-- `codes l`, of a resident one at l itself. Assumes nothing.
+use mathlib.Core.Path.{_≡_, refl, sym, _∙_}
+use mathlib.Core.List.{List, [], _∷_, _++_}
+use mathlib.Core.Bool.{Bool, true, _&&_, and-assoc, and-true}
+use mathlib.Core.Logic.{⊎-elim}
+use Prim.Native.Nat.{ℕ, _+_, _-_, _*_, _≤_, _<_}
+use native.Mathlib.Omega.{arith}
+use borrow.Author.Tests.{lt-ltb, le-ltb}
+use lib.Dec.{leb}
+use lib.IntN.{ℤ, pos, natAbs, _+ℤ_, _*ℤ_, +ℤ-assoc, +ℤ-idl, +ℤ-idr, zero-*ℤ}
+use lib.ListN.{length, drop, getD, length-drop}
+use lib.Seq.{take-add, drop-drop, drop-cons, length-take-le, take-length}
+use mir.Syntax.{w32}
+use mir.Val.{toZ, ofZ}
+use mir.Facts.{toZ-ofZ}
+use Rattle.codes.specs.declared.Check.{Check}
+use Rattle.codes.specs.declared.Sums.{Sums}
+use Rattle.codes.specs.Codes.{part, dot, squares, within, RowCheck, RowSums}
+use Rattle.codes.specs.Sums.{maskedAt, Dotted, Checked, Summed, CodeAdded, CodeChecked, SumsAdded, ChecksAdded}
+use Rattle.le.proofs.Chain.{lt-or-le}
+use Rattle.codes.proofs.Numbers.{abs-add, small}
+
+-- ---- two runs of codes, one after the other
+
+part-add : (n m : ℕ) (xs : List ℤ) (p : ℕ) → part (n + m) xs p ≡ part n xs p ++ part m xs (p + n)
+part-add n m xs p = rw (take-add n m (drop p xs), drop-drop n p xs)
+
+part-one : (xs : List ℤ) (p : ℕ) → p < length xs → part 1 xs p ≡ getD xs p (pos 0) ∷ []
+part-one xs p h = rw (drop-cons xs p (pos 0) h)
+
+part-length : (n : ℕ) (xs : List ℤ) (p : ℕ) → p + n ≤ length xs → length (part n xs p) ≡ n
+part-length n xs p h = length-take-le n (drop p xs) (simp length-drop (omega arith))
+
+pub dot-append : (xs ys us vs : List ℤ) → length xs ≡ length us → dot (xs ++ ys) (us ++ vs) ≡ dot xs us +ℤ dot ys vs
+unfolding dot
+dot-append [] ys [] vs h = sym (+ℤ-idl (dot ys vs))
+dot-append [] ys (u ∷ us) vs h = absurd (omega arith)
+dot-append (x ∷ xs) ys [] vs h = absurd (omega arith)
+dot-append (x ∷ xs) ys (u ∷ us) vs h = rw (dot-append xs ys us vs (omega arith), +ℤ-assoc)
+
+pub squares-append : (xs ys : List ℤ) → squares (xs ++ ys) ≡ squares xs + squares ys
+unfolding squares
+squares-append [] ys = omega arith
+squares-append (x ∷ xs) ys = omega (arith, squares-append xs ys)
+
+pub within-append : (levels : ℕ) (xs ys : List ℤ) → within levels (xs ++ ys) ≡ (within levels xs && within levels ys)
+unfolding within
+within-append levels [] ys = refl
+within-append levels (x ∷ xs) ys =
+    rw (within-append levels xs ys) (sym (and-assoc (leb (natAbs x) levels) (within levels xs) (within levels ys)))
+
+-- ---- the sum of the squares, and whether the codes are within 127
+
+pub check-start : {n : ℕ} {xs : List ℤ} {at i : ℕ} → n ≡ 0 → Checked n xs at i 0 true
+unfolding squares within
+check-start e = rw e (record { squared = refl; size = omega arith; whole = refl })
+
+pub check-add : {n m N : ℕ} {xs : List ℤ} {at i i′ : ℕ} {v w u : ℕ} {a b r : Bool} → i′ ≡ i + n → N ≡ n + m → ChecksAdded v w u a b r
+    → Checked n xs at i v a → Checked m xs at i′ w b → Checked N xs at i u r
+check-add {n} {m} {xs = xs} {at} {i} {i′} e k J A B =
+    let f : at + i′ ≡ at + i + n = omega arith in
+    record {
+      squared =
+          rw (J .squared, A .squared, B .squared, f, k, part-add n m xs (at + i))
+          (sym (squares-append (part n xs (at + i)) (part m xs (at + i + n))));
+      size = omega (arith, J .squared, A .size, B .size);
+      whole =
+          rw (J .whole, A .whole, B .whole, f, k, part-add n m xs (at + i))
+          (sym (within-append 127 (part n xs (at + i)) (part m xs (at + i + n))));
+    }
+
+check-one : {xs : List ℤ} {at i : ℕ} {x : ℤ} → at + i < length xs → x ≡ getD xs (at + i) (pos 0) → natAbs x * natAbs x ≤ 16384
+    → Checked 1 xs at i (natAbs x * natAbs x) (leb (natAbs x) 127)
+unfolding squares within
+check-one {xs} {at} {i} {x} h e s =
+    record {
+      squared = rw (part-one xs (at + i) h, ← e) (omega arith);
+      size = omega arith;
+      whole = rw (part-one xs (at + i) h, ← e) (sym (and-true (leb (natAbs x) 127)));
+    }
+
+-- ---- the dot product
+
+dot-start : {n : ℕ} {xs : List ℤ} {at : ℕ} {ys : List ℤ} {i : ℕ} → n ≡ 0 → at + length ys ≤ length xs → i ≤ length ys → Dotted n xs at ys i (pos 0)
+unfolding dot
+dot-start e h k = rw e (record { row = h; query = omega arith; is = refl; size = omega arith })
+
+dot-add : {n m N : ℕ} {xs : List ℤ} {at : ℕ} {ys : List ℤ} {i i′ : ℕ} {d e f : ℤ} → i′ ≡ i + n → N ≡ n + m → f ≡ d +ℤ e
+    → Dotted n xs at ys i d → Dotted m xs at ys i′ e → Dotted N xs at ys i f
+dot-add {n} {m} {N} {xs} {at} {ys} {i} {i′} {d} {e} a g t A B =
+    record {
+      row = A .row;
+      query = omega (arith, B .query);
+      is =
+          let b : at + i′ ≡ at + i + n = omega arith in
+          let l : length (part n xs (at + i)) ≡ length (part n ys i)
+          = part-length n xs (at + i) (omega (arith, A .row, A .query)) ∙ sym (part-length n ys i (A .query)) in
+          rw (t, A .is, B .is, b, a, g, part-add n m xs (at + i), part-add n m ys i)
+          (sym (dot-append (part n xs (at + i)) (part m xs (at + i + n)) (part n ys i) (part m ys (i + n)) l));
+      size = rw (t, g) (omega (arith, abs-add d e, A .size, B .size));
+    }
+
+dot-one : {xs : List ℤ} {at : ℕ} {ys : List ℤ} {i : ℕ} {x y : ℤ} → at + length ys ≤ length xs → i < length ys → x ≡ getD xs (at + i) (pos 0)
+    → y ≡ getD ys i (pos 0) → natAbs (x *ℤ y) ≤ 16384 → Dotted 1 xs at ys i (x *ℤ y)
+unfolding dot
+dot-one {xs} {at} {ys} {i} h k e f s =
+    record {
+      row = h;
+      query = omega arith;
+      is = rw (part-one xs (at + i) (omega arith), part-one ys i k, ← e, ← f) (sym (+ℤ-idr _));
+      size = omega arith;
+    }
+
+-- ---- one code more, unless it comes before those that are taken
+
+pub code-checked : {x z : ℤ} {w v : ℕ} {b t : Bool} → z ≡ x → (v ≡ natAbs z * natAbs z) × (v ≤ 16384) → t ≡ leb (natAbs z) 127
+    → CodeChecked x w (w + v) b (b && t)
+code-checked e v t = rw (← e) (record { squared = rw (v .0); size = omega (arith, v .1); whole = rw t })
+
+pub check-code : (at i j k : ℕ) {xs : List ℤ} {x : ℤ} {w u : ℕ} {b r : Bool} → at + i + j < length xs → x ≡ getD xs (at + i + j) (pos 0)
+    → CodeChecked (maskedAt j k x) w u b r → Checked (j - (17 - k)) xs at (i + (17 - k)) w b → Checked (j + 1 - (17 - k)) xs at (i + (17 - k)) u r
+check-code at i j k {xs} {x} {w} {u} {b} {r} h e t A = ⊎-elim before taken (lt-or-le (j + k) 17)
+  where
+    before : j + k < 17 → Checked (j + 1 - (17 - k)) xs at (i + (17 - k)) u r
+    before l =
+        let z : CodeChecked (pos 0) w u b r = rw (lt-ltb (j + k) 17 l) at t in
+        let n : j + 1 - (17 - k) ≡ j - (17 - k) = omega arith in
+        let v : u ≡ w = omega (arith, z .squared) in
+        rw (n, v, z .whole, and-true b) A
+
+    taken : 17 ≤ j + k → Checked (j + 1 - (17 - k)) xs at (i + (17 - k)) u r
+    taken l =
+        let z : CodeChecked x w u b r = rw (le-ltb (j + k) 17 l) at t in
+        let o : at + i + j ≡ at + (i + j) = omega arith in
+        check-add (omega arith) (omega arith) (record { squared = z .squared; whole = z .whole }) A
+        (check-one {i = i + j} (omega arith) (rw o at e) (omega (arith, z .squared, z .size)))
+
+pub sums-code : (at i j k : ℕ) {xs ys : List ℤ} {x y : ℤ} {s r : Sums} → i + j < length ys
+    → x ≡ getD xs (at + i + j) (pos 0) → y ≡ getD ys (i + j) (pos 0) → CodeAdded (maskedAt j k x) y s r
+    → Summed (j - (17 - k)) xs at ys (i + (17 - k)) s → Summed (j + 1 - (17 - k)) xs at ys (i + (17 - k)) r
+sums-code at i j k {xs} {ys} {x} {y} {s} {r} h e f t A =
+    record {
+      dotted = ⊎-elim before taken (lt-or-le (j + k) 17);
+      checked = check-code at i j k (omega (arith, A .dotted .row)) e (t .checked) (A .checked);
+    }
+  where
+    before : j + k < 17 → Dotted (j + 1 - (17 - k)) xs at ys (i + (17 - k)) (r .dot)
+    before l =
+        let z : CodeAdded (pos 0) y s r = rw (lt-ltb (j + k) 17 l) at t in
+        let n : j + 1 - (17 - k) ≡ j - (17 - k) = omega arith in
+        rw (n, z .dotted, zero-*ℤ y, +ℤ-idr (s .dot)) (A .dotted)
+
+    taken : 17 ≤ j + k → Dotted (j + 1 - (17 - k)) xs at ys (i + (17 - k)) (r .dot)
+    taken l =
+        let z : CodeAdded x y s r = rw (le-ltb (j + k) 17 l) at t in
+        let o : at + i + j ≡ at + (i + j) = omega arith in
+        dot-add (omega arith) (omega arith) (z .dotted) (A .dotted) (dot-one {i = i + j} (A .dotted .row) h (rw o at e) f (z .size))
+
+-- ---- a part of a row, and the row
+
+pub sums-start : {n : ℕ} {xs : List ℤ} {at : ℕ} {ys : List ℤ} {i : ℕ} {r : Sums} → n ≡ 0 → at + length ys ≤ length xs → i ≤ length ys
+    → r .dot ≡ pos 0 → r .squares ≡ 0 → r .whole ≡ true → Summed n xs at ys i r
+sums-start e h k d w b = record { dotted = rw d (dot-start e h k); checked = rw (w, b) (check-start e) }
+
+pub sums-add : {n m N : ℕ} {xs : List ℤ} {at : ℕ} {ys : List ℤ} {i i′ : ℕ} {a b r : Sums} → i′ ≡ i + n → N ≡ n + m
+    → SumsAdded a b r → Summed n xs at ys i a → Summed m xs at ys i′ b → Summed N xs at ys i r
+sums-add e g j A B =
+    record { dotted = dot-add e g (j .dotted) (A .dotted) (B .dotted); checked = check-add e g (j .checked) (A .checked) (B .checked) }
+
+pub check-done : (n : ℕ) {N : ℕ} {xs : List ℤ} {at i : ℕ} {r : Check} → N ≡ n → i ≡ 0 → Checked N xs at i (r .squares) (r .whole) → RowCheck (part n xs at) r
+check-done n {at = at} {i} e f A =
+    let g : at + i ≡ at = omega arith in
+    record { squared = rw (A .squared, e, g); whole = rw (A .whole, e, g) }
+
+pub sums-done : {N : ℕ} {xs : List ℤ} {at : ℕ} {ys : List ℤ} {i : ℕ} {r : Sums} → N ≡ length ys → i ≡ 0 → Summed N xs at ys i r → RowSums (part (length ys) xs at) ys r
+sums-done {at = at} {ys} {i} e f A =
+    let g : at + i ≡ at = omega arith in
+    record {
+      dotted = rw (A .dotted .is, e, g, f, take-length ys);
+      size = omega (arith, A .dotted .size);
+      squared = rw (A .checked .squared, e, g);
+      whole = rw (A .checked .whole, e, g);
+    }
+
+-- a row's dot product as an i32 holds it
+pub dot-held : {xs ys : List ℤ} {r : Sums} → length ys ≤ 65536 → RowSums xs ys r → toZ w32 (ofZ w32 (r .dot)) ≡ dot xs ys
+dot-held {r = r} h A = toZ-ofZ {w = w32} {z = r .dot} (small (omega (arith, A .size))) ∙ A .dotted

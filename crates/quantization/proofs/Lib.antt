@@ -1,0 +1,9 @@
+-- Laws that belong to no one function.
+pub mod Midpoints
+pub mod Starts
+pub mod Scales
+pub mod Coordinates
+pub mod Codes
+pub mod Stores
+pub mod Rows
+pub mod Encoded

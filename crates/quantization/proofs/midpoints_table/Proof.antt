@@ -1,0 +1,12 @@
+use Rattle.quantization.specs.Encoder.{midpoints}
+use lib.Ieee.{ofBits}
+use mathlib.Core.Path.{refl}
+use Rattle.quantization.proofs.midpoints_table.Statement.{statement}
+use Rattle.quantization.proofs.midpoints_table.Tie as tie
+
+returns : tie.Need-returns
+unfolding midpoints ofBits
+returns c = refl
+
+pub midpoints-table-spec : {M : Type 1} → statement M
+midpoints-table-spec = tie.close (tie.spec returns)

@@ -1,0 +1,4 @@
+-- Encoded rows.
+pub mod View
+pub mod Encoder
+pub mod Walk

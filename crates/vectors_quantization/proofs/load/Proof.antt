@@ -1,0 +1,27 @@
+use Prim.Native.Nat.{_≤_, _-_}
+use borrow.Author.Needs.{needs}
+use Rattle.vectors_quantization.proofs.load.Statement.{statement}
+use Rattle.vectors_quantization.proofs.load.Tie as tie
+
+abbrev Inv-loop : tie.InvT-loop
+Inv-loop s out₀ i₀ out i = i ≤ 43
+
+abbrev μ-loop : tie.MeasureT-loop
+μ-loop s out₀ i₀ out i = 43 - i
+
+pub load-spec : {M : Type 1} → statement M
+load-spec =
+    tie.close
+    (tie.spec
+    Inv-loop
+    μ-loop
+    (λ c. search needs)
+    (λ c. search needs)
+    (λ c κs. search needs)
+    (λ c κs. search needs)
+    (λ c. search needs)
+    (λ c. search needs)
+    (λ c. search needs)
+    (λ c. search needs)
+    (λ c. search needs)
+    (λ c. search needs))
