@@ -1,21 +1,20 @@
 -- Every original distance of two vectors that pass the vector test is finite and fits binary64. Squared L2 and cosine
 -- have no sign, so that a zero is +0, and the cosine's lies in 0 .. 2. Assumes nothing.
+use Rattle.config.proofs.Coordinates.{valid-parts}
 use mathlib.Core.Path.{_≡_, refl, sym, _∙_}
 use mathlib.Core.Bool.{Bool, true, false, cond, true≢false, false≢true}
-use mathlib.Core.List.{List, [], _∷_}
+use mathlib.Core.List.{List}
 use Prim.Native.Nat.{ℕ, zero, suc, _+_, _*_, _≤_, _<_}
 use native.Mathlib.Nat.{zero-mul, mul-pos, zero-lt-suc}
 use native.Mathlib.Omega.{arith}
 use borrow.Author.Tests.{lt-ltb}
 use lib.IntN.{ℤ}
 use lib.Dec.{T, lit≤}
-use lib.ListN.{length, getD}
-use lib.Ieee.{Float, nan, inf, fin, binary32, binary64, up, down, ofBits, fits, sub, mul, lt, le, eq}
-use lib.Ieee.Bits.{is-true, ofBits-fits}
+use lib.ListN.{length}
+use lib.Ieee.{Float, nan, inf, fin, binary32, binary64, up, down, fits, sub, mul, lt, le, eq}
 use lib.Ieee.Fits.{up-pos, neg-fits, cond-fits, sub-fits, mul-fits}
 use lib.Ieee.Scale.{finite}
 use lib.Ieee.Positive.{num}
-use Rattle.le.specs.Le.{leAt}
 use Rattle.le.proofs.Chain.{by}
 use Rattle.float.specs.Values.{zero as nought, one, two}
 use Rattle.float.specs.Hold.{clamp}
@@ -27,24 +26,12 @@ use Rattle.float.proofs.Singles.{least-of}
 use Rattle.float.proofs.Additions.{Plus, plus-le, sub-some}
 use Rattle.float.proofs.Numbers.{In, hold-in, mul-number, sub-number}
 use Rattle.float.proofs.SquareRoot.{sqrt-is, root-over}
-use Rattle.config.specs.Vector.{all, finites, patternsAt, floatsAt, validVector}
+use Rattle.config.specs.Vector.{all, finites, validVector}
 use Rattle.config.specs.declared.Metric.{Metric}
 use Rattle.config.specs.declared.Metric.the-variants.{SquaredL2, Cosine, InnerProduct}
 use Rattle.math.specs.Sums.{dot, squaredL2}
 use Rattle.math.specs.Distance.{inverse, inverseNorm, original}
-use Rattle.math.proofs.Folds.{valid-parts}
 use Rattle.math.proofs.Totals.{Coordinates, coordinates, dot-sum, l2-sum, square-sum}
-
--- ---- coordinates that fit binary32: a record's, and those of a slice of f32 by its own rule
-pub floats-fit : (n : ℕ) (s : List ℕ) (at : ℕ) → all (fits binary32) (floatsAt n s at) ≡ true
-unfolding all patternsAt
-floats-fit zero s at = refl
-floats-fit (suc n) s at = let b = leAt 4 s at in rw (is-true (fits binary32 (ofBits binary32 b)) (ofBits-fits binary32 b), floats-fit n s (at + 4))
-
-pub slice-fit : (v : List Float) → ((k : ℕ) → T (fits binary32 (getD v k nan))) → all (fits binary32) v ≡ true
-unfolding all
-slice-fit [] h = refl
-slice-fit (x ∷ v) h = rw (is-true (fits binary32 x) (h 0), slice-fit v (λ k. h (suc k)))
 
 -- ---- the inverse of a root is finite
 inverse-zero : (s : Bool) (e : ℤ) → inverse (fin s zero e) ≡ nought

@@ -1,4 +1,5 @@
 -- Four sums at once, a pair of each a turn. Assumes nothing.
+use Rattle.config.proofs.Coordinates.{valid-parts}
 use mathlib.Core.Path.{_≡_, refl, ap, _∙_}
 use mathlib.Core.Bool.{true, _&&_, and-eq-true-iff}
 use mathlib.Core.List.{List, [], _∷_}
@@ -16,7 +17,7 @@ use Rattle.config.proofs.Vectors.{length-floats}
 use Rattle.math.specs.Sums.{start, dotStep, stepOf}
 use Rattle.math.specs.Distance.{inverse, inverseNorm, finished, original}
 use Rattle.math.specs.Four.{quad, validFive}
-use Rattle.math.proofs.Folds.{Kept, kept-start, kept-turn, kept-done, is-original, valid-parts}
+use Rattle.math.proofs.Folds.{Kept, kept-start, kept-turn, kept-done, is-original}
 
 -- ---- four values, and the k-th of four lists
 pub four-alike : {a b c d e f g h : Float} → a ≡ e → b ≡ f → c ≡ g → d ≡ h → a ∷ b ∷ c ∷ d ∷ [] ≡ e ∷ f ∷ g ∷ h ∷ []

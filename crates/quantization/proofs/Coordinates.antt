@@ -1,9 +1,9 @@
 -- A vector's coordinates by their patterns: the largest magnitude is the largest pattern's, and the scale and the codes follow
 -- from it. Assumes nothing.
 use mathlib.Core.Path.{_≡_, refl, sym, ap, _∙_}
-use mathlib.Core.Bool.{Bool, true, false, not, cond, _&&_}
+use mathlib.Core.Bool.{Bool, true, false, not, cond}
 use mathlib.Core.List.{List, [], _∷_, map}
-use Prim.Native.Nat.{ℕ, zero, suc, _+_, _*_, _%_, _^_, _≤_, _<_, max}
+use Prim.Native.Nat.{ℕ, _+_, _%_, _^_, _≤_, _<_, max}
 use native.Mathlib.Nat.{le-of-lt}
 use native.Mathlib.Numerals.{add-one}
 use native.Mathlib.Omega.{arith}
@@ -12,11 +12,9 @@ use lib.Dec.{T, ltb, leb}
 use lib.ListN.{length, getD, drop, drop-of-length-le}
 use lib.Seq.{drop-cons}
 use lib.Ieee.{Float, nan, binary32, binary64, ofBits, toBits, fits, lt, div, unlike, isNan}
-use lib.Ieee.Bits.{is-true, ofBits-fits, ofBits-toBits}
-use lib.Ieee.Fits.{and-l, and-r}
+use lib.Ieee.Bits.{ofBits-fits, ofBits-toBits}
 use lib.Ieee.Scale.{finite}
 use lib.Ieee.Positive.{positive}
-use Rattle.le.specs.Le.{leAt}
 use Rattle.le.proofs.Chain.{by}
 use Rattle.float.specs.Values.{abs}
 use Rattle.float.specs.Order.{negative}
@@ -24,44 +22,14 @@ use Rattle.float.proofs.Patterns.{abs-bits, lt-bits, sign-bits, small-bits, bit
 use Rattle.float.proofs.Bounds.{abs-div, div-sign}
 use Rattle.float.proofs.Numbers.{div-number}
 use Rattle.float.proofs.Singles.{positive-parts}
-use Rattle.config.specs.Vector.{all, finites, patternsAt, floatsAt, largestBits}
+use Rattle.config.specs.Vector.{all, finites, largestBits}
 use Rattle.config.specs.Vector as vector
 use Rattle.config.proofs.Vectors.{finites-largest}
+use Rattle.config.proofs.Coordinates.{all-cons}
 use Rattle.quantization.specs.Encoder.{largest, largestFrom, scaleBy, scaleOf, notAbove, signedBy, codeOf, midpoints}
 use Rattle.quantization.proofs.Scales.{Plain}
 
--- ---- every coordinate
-module _ {A : Type 0} (test : A → Bool) where
-  pub all-cons : (x : A) (v : List A) → all test (x ∷ v) ≡ true → (T (test x)) × (all test v ≡ true)
-  unfolding all
-  all-cons x v h = let t : T (test x && all test v) = rw h tt in (and-l (test x) (all test v) t, is-true (all test v) (and-r (test x) (all test v) t))
-
-  pub all-by : (v : List A) (d : A) → ((i : ℕ) → T (test (getD v i d))) → all test v ≡ true
-  unfolding all
-  all-by [] d h = refl
-  all-by (x ∷ v) d h = rw (is-true (test x) (h 0), all-by v d (λ i. h (suc i)))
-
-  pub all-at : (v : List A) (i : ℕ) (d : A) → all test v ≡ true → i < length v → T (test (getD v i d))
-  all-at [] i d h l = absurd (omega arith)
-  all-at (x ∷ v) zero d h l = all-cons x v h .0
-  all-at (x ∷ v) (suc i) d h l = all-at v i d (all-cons x v h .1) (omega arith)
-
--- a record's coordinate
-pub floats-at : (n : ℕ) (s : List ℕ) (at i : ℕ) → i < n → getD (floatsAt n s at) i nan ≡ ofBits binary32 (leAt 4 s (at + 4 * i))
-unfolding patternsAt
-floats-at zero s at i h = absurd (omega arith)
-floats-at (suc n) s at zero h = let k : at + 4 * 0 ≡ at = omega arith in rw k
-floats-at (suc n) s at (suc i) h = let k : at + 4 * suc i ≡ at + 4 + 4 * i = omega arith in rw k (floats-at n s (at + 4) i (omega arith))
-
--- what was made of patterns fits, and what fits is made of its patterns
-pub patterns-fit : (bs : List ℕ) → all (fits binary32) (map (ofBits binary32) bs) ≡ true
-unfolding all
-patterns-fit [] = refl
-patterns-fit (b ∷ bs) = rw (is-true (fits binary32 (ofBits binary32 b)) (ofBits-fits binary32 b), patterns-fit bs)
-
-pub floats-fit : (n : ℕ) (s : List ℕ) (at : ℕ) → all (fits binary32) (floatsAt n s at) ≡ true
-floats-fit n s at = patterns-fit (patternsAt n s at)
-
+-- what fits is made of its patterns
 pub of-patterns : (v : List Float) → all (fits binary32) v ≡ true → map (ofBits binary32) (map (toBits binary32) v) ≡ v
 of-patterns [] h = refl
 of-patterns (x ∷ v) h = let k = all-cons (fits binary32) x v h in rw (ofBits-toBits binary32 x (k .0), of-patterns v (k .1))

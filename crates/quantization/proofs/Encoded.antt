@@ -1,4 +1,5 @@
 -- What the encoder gives passes the row test, under every metric; with the bounds of its codes, norm and scale. Assumes nothing.
+use Rattle.config.proofs.Coordinates.{all-cons, patterns-fit}
 use mathlib.Core.Path.{_≡_, refl, sym, ap, _∙_, subst}
 use mathlib.Core.Bool.{true, false, not, _&&_}
 use mathlib.Core.List.{List, [], _∷_, map, _++_, map-map}
@@ -32,7 +33,7 @@ use Rattle.quantization.specs.View.{rowBytes, rowAt, validRow}
 use Rattle.quantization.specs.Encoder.{largest, scaleBy, scaleOf, notAbove, codeOf, encode, midpoint, midpoints}
 use Rattle.quantization.proofs.Midpoints.{length-midpoints, at-most, counted}
 use Rattle.quantization.proofs.Scales.{c127, Plain, scale-part, scale-plus, scale-low, scale-high, scale-fits}
-use Rattle.quantization.proofs.Coordinates.{all-cons, patterns-fit, of-patterns, largest-is, largest-small, largest-plain, code-abs, code-plain}
+use Rattle.quantization.proofs.Coordinates.{of-patterns, largest-is, largest-small, largest-plain, code-abs, code-plain}
 use Rattle.quantization.proofs.Codes.{abs-signed, within-at}
 use Rattle.quantization.proofs.Rows.{reads-back}
 

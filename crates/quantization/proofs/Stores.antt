@@ -1,4 +1,5 @@
 -- The loop that stores codes, whatever a code is stored as: one turn, and its end. Assumes nothing.
+use Rattle.config.proofs.Coordinates.{all-at, floats-at, patterns-fit}
 use mathlib.Core.Path.{_≡_, refl, sym, ap, _∙_}
 use mathlib.Core.Bool.{true}
 use mathlib.Core.List.{List, [], _∷_, _++_, map}
@@ -25,7 +26,7 @@ use Rattle.quantization.specs.Encoder.{largest, scaleBy, scaleOf, encode
 use Rattle.codes.proofs.Rows.{squares-append}
 use Rattle.quantization.proofs.Codes.{abs-signed, square-le}
 use Rattle.quantization.proofs.Scales.{scale-plus}
-use Rattle.quantization.proofs.Coordinates.{all-at, floats-at, patterns-fit, scale-is, largest-plain, code-is}
+use Rattle.quantization.proofs.Coordinates.{scale-is, largest-plain, code-is}
 
 -- the codes of v at the scale s
 abbrev pub codesBy : Float → List Float → List ℤ

@@ -1,7 +1,7 @@
 -- A whole number as a float, what a distance answers, and that the floor at 0 is the Rust's `max`. Assumes nothing.
 use mathlib.Core.Path.{_≡_, refl}
 use mathlib.Core.Bool.{Bool, true, false, not, _&&_, and-true, false≢true, true≢false}
-use Prim.Native.Nat.{ℕ, suc, _-_, _*_, _≤_, _<_, _^_}
+use Prim.Native.Nat.{ℕ, suc, _-_, _≤_, _<_, _^_}
 use native.Mathlib.Omega.{arith}
 use lib.Dec.{T, eqb, le→leb, lt→ltb}
 use borrow.Author.Tests.{ne-eqb, eqb-true}
@@ -11,6 +11,7 @@ use lib.Ieee.Scale.{finite as fine}
 use mir.Syntax.{w32, w64}
 use mir.Val.{SFits, toZ, ofZ}
 use mir.Facts.{toZ-ofZ}
+use Rattle.codes.proofs.Numbers.{small}
 use Rattle.config.specs.Refusal.{refused}
 use Rattle.float.specs.Values.{zero}
 use Rattle.quantization.specs.View.{isCount}
@@ -25,11 +26,7 @@ in-float (pos n) h = le→leb n (2 ^ 53) h
 in-float (negsuc n) h = lt→ltb n (2 ^ 53) (omega arith)
 
 pub held : (z : ℤ) → natAbs z ≤ 9007199254740992 → toZ w64 (ofZ w64 z) ≡ z
-held z h = toZ-ofZ (small z h)
-  where
-    small : (z : ℤ) → natAbs z ≤ 9007199254740992 → SFits w64 z
-    small (pos n) h = record { sfits = omega arith }
-    small (negsuc n) h = record { sfits = omega arith }
+held z h = toZ-ofZ (small {w = w64} {x = z} (omega arith))
 
 -- finite and above 0, by two comparisons
 pub above : (x : Float) → (lt zero x && lt x (inf false)) ≡ (fine x && lt zero x)
@@ -59,21 +56,6 @@ norm-small metric s z w b h e = go z (and-right (fine s && lt zero s && b) (isCo
     and-right : (x y : Bool) → (x && y) ≡ true → y ≡ true
     and-right true y t = t
     and-right false y t = absurd (false≢true t)
-
--- a dot product of up to 4096 codes is an i32
-pub dot-held : (z : ℤ) (n : ℕ) → natAbs z ≤ 16384 * n → n ≤ 4096 → toZ w32 (ofZ w32 z) ≡ z
-dot-held z n h k = toZ-ofZ (small z (omega arith))
-  where
-    small : (z : ℤ) → natAbs z ≤ 67108864 → SFits w32 z
-    small (pos n) h = record { sfits = omega arith }
-    small (negsuc n) h = record { sfits = omega arith }
-
--- an i32 as an i64
-pub wide-fits : (z : ℤ) → SFits w32 z → SFits w64 z
-wide-fits z f = record { sfits = omega (arith, f .sfits) }
-
-pub widened : (z : ℤ) → SFits w32 z → toZ w64 (ofZ w64 (toZ w32 (ofZ w32 z))) ≡ z
-widened z f = rw (toZ-ofZ f) (toZ-ofZ (wide-fits z f))
 
 pub small-32 : (z : ℤ) → SFits w32 z → natAbs z ≤ 9007199254740992
 small-32 (pos n) f = omega (arith, f .sfits)

@@ -1,3 +1,4 @@
+use Rattle.config.proofs.Coordinates.{all-at}
 use mathlib.Core.Bool.{not}
 use borrow.Author.Needs.{needs}
 use lib.ListN.{getD}
@@ -5,7 +6,6 @@ use lib.Ieee.{nan, binary64, fits, isNan}
 use lib.Ieee.Fits.{and-i, fits-widens}
 use lib.Ieee.Scale.{finite}
 use Rattle.float.proofs.BitLaws.{finite-number}
-use Rattle.math.proofs.Folds.{all-at}
 use Rattle.math.proofs.coordinate.Statement.{statement}
 use Rattle.math.proofs.coordinate.Tie as tie
 
@@ -17,5 +17,5 @@ coordinate-spec =
     (λ c. search needs)
     (λ c. let s = c .before .before in
     let x = getD (s .args .v .now) (s .args .i) nan in
-    and-i (fits binary64 x) (not (isNan x)) (fits-widens x (c .row-known .given)) (finite-number x (rw (all-at finite (s .args .v .now) (s .args .i) nan (s .pre .1) (s .pre .0)) tt)))
+    and-i (fits binary64 x) (not (isNan x)) (fits-widens x (c .row-known .given)) (finite-number x (all-at finite (s .args .v .now) (s .args .i) nan (s .pre .1) (s .pre .0))))
     (λ c. search needs))

@@ -1,8 +1,8 @@
-use mathlib.Core.Path.{ap, _∙_}
+use Rattle.config.proofs.Coordinates.{finite-at, floats-at}
+use mathlib.Core.Path.{sym, ap, _∙_}
 use borrow.Author.Needs.{needs}
 use lib.Ieee.{binary32, ofBits}
 use Rattle.float.proofs.BitLaws.{no-nan, widens}
-use Rattle.math.proofs.Folds.{float-at, finite-at}
 use Rattle.math.proofs.coordinate_at.Statement.{statement}
 use Rattle.math.proofs.coordinate_at.Tie as tie
 
@@ -23,4 +23,4 @@ coordinate-at-spec =
     (λ c. widens (c .before .u32-at .result) (float-from-bits-x (c .before)))
     (λ c. let s = c .before .before .before in
     let a = s .args in
-    ap (ofBits binary32) (c .before .u32-at .ensures) ∙ float-at (a .n) (a .s .now) (a .at) (a .i) (s .pre .1)))
+    ap (ofBits binary32) (c .before .u32-at .ensures) ∙ sym (floats-at (a .n) (a .s .now) (a .at) (a .i) (s .pre .1))))

@@ -1,10 +1,11 @@
-use mathlib.Core.Path.{_∙_}
+use Rattle.config.proofs.Coordinates.{floats-at, in-floats, past-floats}
+use mathlib.Core.Path.{sym, _∙_}
 use Prim.Native.Nat.{_≤_, _-_}
 use borrow.Author.Needs.{needs}
 use lib.Ieee.{neg, ofBits}
 use Rattle.config.specs.Vector.{floatsAt}
 use Rattle.math.specs.Sums.{dotStep}
-use Rattle.math.proofs.Folds.{Kept, kept-start, kept-turn, kept-done, float-at, in-floats, past-floats}
+use Rattle.math.proofs.Folds.{Kept, kept-start, kept-turn, kept-done}
 use Rattle.math.proofs.inverse_norm_at.Statement.{statement}
 use Rattle.math.proofs.inverse_norm_at.Tie as tie
 
@@ -30,6 +31,6 @@ inverse-norm-at-spec =
     (λ c κs. search needs)
     (λ c. search needs)
     (λ c. search needs)
-    (λ c. let L = c .before .before .loop in let h = c .before .loop-test .taken in let a = c .before .before .before .before .args in let l = in-floats (a .n) (a .s .now) (a .at) h in let e = c .f32-value-at .ensures ∙ float-at (a .n) (a .s .now) (a .at) (L .i) h in (search needs, kept-turn l l e e (L .inv .1)))
+    (λ c. let L = c .before .before .loop in let h = c .before .loop-test .taken in let a = c .before .before .before .before .args in let l = in-floats (a .n) (a .s .now) (a .at) h in let e = c .f32-value-at .ensures ∙ sym (floats-at (a .n) (a .s .now) (a .at) (L .i) h) in (search needs, kept-turn l l e e (L .inv .1)))
     (λ c κs. search needs)
     (λ c. let a = c .before .before .before .before .args in rw (← kept-done (past-floats (a .n) (a .s .now) (a .at) (c .before .loop-test .left)) (c .before .before .loop .inv .1)) (c .inverse-root .ensures)))

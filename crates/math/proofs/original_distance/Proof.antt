@@ -1,3 +1,4 @@
+use Rattle.config.proofs.Coordinates.{in-floats, past-floats}
 use mathlib.Core.Bool.{true}
 use mathlib.Core.Path.{_≡_, refl, _∙_}
 use Prim.Native.Nat.{_≤_, _-_}
@@ -7,7 +8,7 @@ use lib.ListN.{length}
 use Rattle.config.specs.Metric.{isCosine}
 use Rattle.config.specs.Vector.{floatsAt}
 use Rattle.math.specs.Sums.{dotStep, stepOf}
-use Rattle.math.proofs.Folds.{Kept, kept-start, kept-turn, kept-done, in-floats, past-floats, is-original}
+use Rattle.math.proofs.Folds.{Kept, kept-start, kept-turn, kept-done, is-original}
 use Rattle.math.proofs.original_distance.Statement.{statement}
 use Rattle.math.proofs.original_distance.Tie as tie
 

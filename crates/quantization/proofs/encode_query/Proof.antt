@@ -1,3 +1,4 @@
+use Rattle.config.proofs.Coordinates.{all-at, all-by}
 use mathlib.Core.Path.{_≡_}
 use mathlib.Core.List.{map}
 use Prim.Native.Nat.{_≤_, _-_, _^_}
@@ -9,7 +10,7 @@ use lib.Ieee.{nan, binary32, toBits, fits}
 use lib.Ieee.Scale.{finite}
 use Rattle.float.proofs.BitLaws.{finite-number}
 use Rattle.quantization.proofs.Codes.{fits-i16, as-i16}
-use Rattle.quantization.proofs.Coordinates.{all-at, all-by, of-patterns}
+use Rattle.quantization.proofs.Coordinates.{of-patterns}
 use Rattle.quantization.proofs.Stores.{float-at, Stored, stored-start, stored-asks, stored-turn, stored-done}
 use Rattle.quantization.proofs.Rows.{front}
 use Rattle.quantization.proofs.encode_query.Statement.{statement}

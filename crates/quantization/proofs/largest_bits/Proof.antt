@@ -1,7 +1,8 @@
+use Rattle.config.proofs.Coordinates.{all-at}
 use lib.Ieee.Scale.{finite}
 use Rattle.float.proofs.BitLaws.{finite-number}
 use lib.Ieee.{nan, binary32, toBits}
-use Rattle.quantization.proofs.Coordinates.{Largest, largest-turn, largest-done, all-at}
+use Rattle.quantization.proofs.Coordinates.{Largest, largest-turn, largest-done}
 use mathlib.Core.Logic.{inl, inr}
 use mathlib.Core.Path.{refl, _≡_}
 use lib.ListN.{length, getD}

@@ -6,7 +6,9 @@ use lib.ListN.{length}
 use lib.Ieee.{binary64, ofBits}
 use Rattle.codes.specs.Codes.{codes, part}
 use Rattle.quantization.specs.View.{rowAt}
-use Rattle.row.proofs.Distances.{dot-held}
+use native.Mathlib.Nat.{le-trans}
+use lib.Dec.{lit≤}
+use Rattle.codes.proofs.Rows.{dot-held}
 use Rattle.row.proofs.Views.{as-view}
 use borrow.Author.Needs.{needs}
 use Rattle.row.proofs.cached_row.Statement.{statement}
@@ -23,7 +25,7 @@ returns c =
     (c .row-answer .ensures
     ∙ as-view (a .metric) true (a .place) (a .query .scale) (a .query .norm) (part (length (a .q .now)) (codes (a .cache .now)) (a .at + 16)) (a .q .now)
     scale (toZ-ofZ (record { sfits = c .before .before .before .before .i64-at .ok }) ∙ c .before .before .before .before .i64-at .ensures) (t .ensures .squared) (t .ensures .whole)
-    (λ e. dot-held (t .result .dot) (length (a .q .now)) (t .ensures .size) (b .pre .0 .1) ∙ t .ensures .dotted))
+    (λ e. dot-held (le-trans (b .pre .0 .1) (lit≤ tt)) (t .ensures)))
 
 returns-2 : tie.Need-returns-2
 unfolding rowAt

@@ -6,7 +6,7 @@ use lib.Dec.{lit≤}
 use lib.ListN.{length, drop-of-length-le}
 use Rattle.quantization.proofs.Encoded.{norm-most, code-at}
 use mathlib.Core.Path.{sym, _∙_}
-use Rattle.math.proofs.Folds.{valid-parts}
+use Rattle.config.proofs.Coordinates.{valid-parts}
 use native.Mathlib.Omega.{arith}
 use borrow.Author.Needs.{needs}
 use Rattle.vectors_quantization.proofs.approximate_line.Statement.{statement}

@@ -5,7 +5,7 @@ use lib.ListN.{length}
 use mathlib.Core.Path.{sym, _∙_}
 use Rattle.config.specs.declared.Metric.the-variants.{SquaredL2}
 use Rattle.config.specs.Vector.{floatsAt}
-use Rattle.math.proofs.Folds.{valid-parts}
+use Rattle.config.proofs.Coordinates.{valid-parts}
 use native.Mathlib.Omega.{arith}
 use borrow.Author.Needs.{needs}
 use Rattle.vectors_quantization.proofs.encoder_line.Statement.{statement}

@@ -1,6 +1,6 @@
 use mathlib.Core.Path.{sym, _∙_}
 use Rattle.config.specs.Vector.{floatsAt}
-use Rattle.math.proofs.Folds.{valid-parts}
+use Rattle.config.proofs.Coordinates.{valid-parts}
 use borrow.Author.Needs.{needs}
 use Rattle.vectors_quantization.proofs.original_line.Statement.{statement}
 use Rattle.vectors_quantization.proofs.original_line.Tie as tie
