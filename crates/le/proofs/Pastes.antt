@@ -1,12 +1,13 @@
 -- A list with a part replaced: its length, its parts, and one replacement after another. Over any element. Assumes nothing.
 use mathlib.Core.Path.{_≡_, sym, ap, _∙_}
-use Prim.Native.Nat.{ℕ, _+_, _-_, _≤_}
+use Prim.Native.Nat.{ℕ, zero, suc, _+_, _-_, _≤_, _<_}
 use mathlib.Core.List.{List, [], _++_, append-nil, append-assoc}
 use native.Mathlib.Nat.{add-assoc, zero-add, add-zero}
+use native.Mathlib.Numerals.{add-one}
 use native.Mathlib.Omega.{arith}
-use lib.ListN.{length, take, drop, length-append, length-take, length-drop, take-append-drop}
+use lib.ListN.{length, getD, set, take, drop, replicate, length-append, length-take, length-drop, take-append-drop}
 use borrow.Rule.Slice.PartMut.{putMid}
-use lib.Seq.{sets, sets-eq, take-append-seam, take-append-le, drop-append-le, drop-append-add, drop-drop, take-at, drop-at, length-take-le}
+use lib.Seq.{sets, sets-eq, take-append-seam, take-append-le, drop-append-le, drop-append-add, drop-drop, take-at, drop-at, length-take-le, drop-cons, take-suc, append-snoc, set-at}
 use Rattle.le.specs.Le.{paste}
 
 module _ {A : Type 0} where
@@ -89,3 +90,15 @@ module _ {A : Type 0} where
       ap (λ (n : ℕ). drop n (take at d ++ a ++ drop (at + length a) d)) (sym e)
       ∙ drop-add (take at d ++ a) (drop (at + length a) d) (at + length a) (p - (at + length a)) (front d a at h)
       ∙ drop-drop (p - (at + length a)) (at + length a) d ∙ ap (λ (n : ℕ). drop n d) e
+
+  -- one turn of a copy
+  pub copy-turn : (v o : List A) (i : ℕ) {x : A} (d : A) → i < length v → i < length o → x ≡ getD v i d → set (take i v ++ drop i o) i x ≡ take (i + 1) v ++ drop (i + 1) o
+  copy-turn v o i d h k e =
+      let l : i ≤ length v = omega arith in
+      rw (e, drop-cons o i d k, set-at (take i v) (getD o i d) (drop (suc i) o) (getD v i d) i (length-take-le i v l), add-one i, take-suc v i d h)
+      (sym (append-snoc (take i v) (getD v i d) (drop (suc i) o)))
+
+  pub drop-replicate : (k n : ℕ) (a : A) → drop k (replicate n a) ≡ replicate (n - k) a
+  drop-replicate zero n a = let e : n - 0 ≡ n = omega arith in rw e
+  drop-replicate (suc k) zero a = let e : 0 - suc k ≡ 0 = omega arith in rw e
+  drop-replicate (suc k) (suc n) a = let e : suc n - suc k ≡ n - k = omega arith in rw e (drop-replicate k n a)

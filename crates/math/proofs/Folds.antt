@@ -1,13 +1,12 @@
--- The coordinates of a vector and of a record, a copy and a sum a turn at a time, and the distance from its sums.
+-- The coordinates of a vector and of a record, a sum a turn at a time, and the distance from its sums.
 -- Assumes nothing.
-use mathlib.Core.Path.{_≡_, refl, sym}
+use mathlib.Core.Path.{_≡_, refl}
 use mathlib.Core.Bool.{true}
-use mathlib.Core.List.{List, _++_}
-use Prim.Native.Nat.{ℕ, suc, _+_, _≤_, _<_}
+use mathlib.Core.List.{List}
+use Prim.Native.Nat.{ℕ, _+_, _≤_, _<_}
 use native.Mathlib.Numerals.{add-one}
-use native.Mathlib.Omega.{arith}
-use lib.ListN.{length, getD, take, drop, set, drop-of-length-le}
-use lib.Seq.{drop-cons, take-suc, append-snoc, set-at, length-take-le}
+use lib.ListN.{length, getD, drop, drop-of-length-le}
+use lib.Seq.{drop-cons}
 use lib.Ieee.{Float, nan}
 use Rattle.float.specs.SquareRoot.{sqrtOf}
 use Rattle.config.specs.Metric.{isCosine}
@@ -15,15 +14,6 @@ use Rattle.config.specs.declared.Metric.{Metric}
 use Rattle.config.specs.declared.Metric.the-variants.{SquaredL2, Cosine, InnerProduct}
 use Rattle.math.specs.Sums.{fold2, start, dot, sumOf}
 use Rattle.math.specs.Distance.{inverse, inverseNorm, finished, original}
-
--- ---- coordinates
-
--- one turn of a copy
-pub copy-turn : {A : Type 0} (v o : List A) (i : ℕ) {x : A} (d : A) → i < length v → i < length o → x ≡ getD v i d → set (take i v ++ drop i o) i x ≡ take (i + 1) v ++ drop (i + 1) o
-copy-turn v o i d h k e =
-    let l : i ≤ length v = omega arith in
-    rw (e, drop-cons o i d k, set-at (take i v) (getD o i d) (drop (suc i) o) (getD v i d) i (length-take-le i v l), add-one i, take-suc v i d h)
-    (sym (append-snoc (take i v) (getD v i d) (drop (suc i) o)))
 
 -- ---- one turn of a sum
 -- acc is the sum of the pairs before i

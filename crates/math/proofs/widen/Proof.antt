@@ -6,7 +6,7 @@ use borrow.Author.Needs.{needs}
 use lib.Seq.{take-length}
 use lib.Ieee.{nan}
 use lib.ListN.{length, take, drop, set, length-set}
-use Rattle.math.proofs.Folds.{copy-turn}
+use Rattle.le.proofs.Pastes.{copy-turn}
 use Rattle.math.proofs.widen.Statement.{statement}
 use Rattle.math.proofs.widen.Tie as tie
 

@@ -1,0 +1,55 @@
+-- The first number that fails a test, as a loop over rising numbers finds it. Assumes nothing.
+use mathlib.Core.Path.{_≡_, refl, sym, _∙_}
+use mathlib.Core.Bool.{Bool, true, false, cond}
+use Prim.Native.Nat.{ℕ, zero, suc, _+_, _-_, _≤_, _<_}
+use native.Mathlib.Omega.{arith}
+use lib.Dec.{eqb}
+use borrow.Author.Tests.{eqb-true, eqb-false}
+use Rattle.le.proofs.Chain.{by}
+use Rattle.format.specs.Order.{firstFrom, firstBad}
+
+-- a loop has come to i, and all before it passed
+pub record Reached (ok : ℕ → Bool) (n i : ℕ) : Type 0 where
+  pub so : firstFrom ok (n - i) i ≡ firstBad ok n
+
+module _ (ok : ℕ → Bool) where
+  step : (k i : ℕ) → firstFrom ok (suc k) i ≡ cond (ok i) (firstFrom ok k (i + 1)) i
+  unfolding firstFrom
+  step k i = refl
+
+  none : (i : ℕ) → firstFrom ok 0 i ≡ i
+  unfolding firstFrom
+  none i = refl
+
+  at-i : (n i : ℕ) → i < n → firstFrom ok (n - i) i ≡ cond (ok i) (firstFrom ok (n - (i + 1)) (i + 1)) i
+  at-i n i h = let e : n - i ≡ suc (n - (i + 1)) = omega arith in rw e (step (n - (i + 1)) i)
+
+  low : (k i : ℕ) → i ≤ firstFrom ok k i
+  low zero i = rw (none i) (omega arith)
+  low (suc k) i = rw (step k i) (by (ok i) (λ p. rw p (let h = low k (i + 1) in omega (arith, h))) (λ p. rw p (omega arith)))
+
+  from-pass : (k i j : ℕ) → firstFrom ok k i ≡ i + k → i ≤ j → j < i + k → ok j ≡ true
+  from-pass zero i j e l h = absurd (omega arith)
+  from-pass (suc k) i j e l h =
+      by (ok i) (λ p. by (eqb i j) (λ q. rw (eqb-true i j q) at p)
+      (λ q. let f : firstFrom ok k (i + 1) ≡ i + suc k = rw (step k i, p) at e in
+      let n = eqb-false i j q in
+      from-pass k (i + 1) j (f ∙ omega arith) (omega (arith, n)) (omega arith)))
+      (λ p. let f : i ≡ i + suc k = rw (step k i, p) at e in absurd (omega (arith, f)))
+
+  -- where none fails, each passes; and back
+  pub each-passes : (n i : ℕ) → firstBad ok n ≡ n → i < n → ok i ≡ true
+  each-passes n i e h = from-pass n 0 i (e ∙ omega arith) (omega arith) (omega arith)
+
+module _ {ok : ℕ → Bool} {n i : ℕ} where
+  pub reached-turn : i < n → ok i ≡ true → Reached ok n i → Reached ok n (i + 1)
+  reached-turn h p r = record { so = sym (rw p at (at-i ok n i h)) ∙ r .so }
+
+  pub reached-stop : i < n → ok i ≡ false → Reached ok n i → i ≡ firstBad ok n
+  reached-stop h p r = sym (rw p at (at-i ok n i h)) ∙ r .so
+
+  pub reached-end : n ≤ i → Reached ok n i → i ≡ firstBad ok n
+  reached-end h r = let e : n - i ≡ 0 = omega arith in sym (none ok i) ∙ (rw e at (r .so))
+
+pub reached-start : (ok : ℕ → Bool) (n : ℕ) → Reached ok n 0
+reached-start ok n = let e : n - 0 ≡ n = omega arith in record { so = rw e refl }

@@ -1,0 +1,3 @@
+-- Laws of the manifest's definitions.
+pub mod First
+pub mod Heads

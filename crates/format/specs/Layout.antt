@@ -1,0 +1,24 @@
+-- Where the parts of a manifest whose head passes its tests lie, as the functions that read them take it.
+use mathlib.Core.Path.{_≡_}
+use mathlib.Core.List.{List}
+use Prim.Native.Nat.{ℕ, _+_, _*_, _≤_}
+use lib.ListN.{length}
+use Rattle.format.specs.Fields.{dimensionsOf, segmentsOf, rowsOf, tableAt, entriesAt, idAt, segmentAt, offsetAt, metadataAt}
+use Rattle.format.specs.declared.Layout.{Layout}
+use Rattle.format.specs.declared.Entry.{Entry}
+
+pub record Placed (m : List ℕ) (l : Layout) : Type 0 where
+  pub dimensions : l .dimensions ≡ dimensionsOf m
+  pub segments : l .segments ≡ segmentsOf m
+  pub rows : l .rows ≡ rowsOf m
+  pub table : l .table ≡ tableAt m
+  pub entries : l .entries ≡ entriesAt m
+  pub end : entriesAt m + 20 * rowsOf m + 4 ≡ length m
+  pub short : length m ≤ 67108864
+  pub low : 1 ≤ dimensionsOf m
+  pub high : dimensionsOf m ≤ 4096
+  pub few : segmentsOf m ≤ 1024
+  pub most : rowsOf m ≤ 1000000
+
+abbrev pub entryAt : List ℕ → ℕ → Entry
+entryAt m r = record { id = idAt m r; segment = segmentAt m r; offset = offsetAt m r; metadata = metadataAt m r }

@@ -1,0 +1,24 @@
+-- Tests in the order of document 01's tables ("Manifest checks run in the order `read_manifest` reads", "5 for the lowest bad row").
+use mathlib.Core.Bool.{Bool, cond, _&&_}
+use Prim.Native.Nat.{ℕ, zero, suc, _+_}
+use lib.Dec.{leb, eqb}
+
+-- a test and the number of its refusal, before the rest of the table; 0 is no refusal
+abbrev pub unless : Bool → ℕ → ℕ → ℕ
+unless ok number rest = cond ok rest number
+
+-- an earlier table's number, before the rest
+abbrev pub orElse : ℕ → ℕ → ℕ
+orElse number rest = cond (eqb number 0) rest number
+
+abbrev pub within : ℕ → ℕ → ℕ → Bool
+within low high x = leb low x && leb x high
+
+-- the first number from i on that fails, of k of them; i + k where none does
+unfoldable pub firstFrom : (ℕ → Bool) → ℕ → ℕ → ℕ
+firstFrom ok zero i = i
+firstFrom ok (suc k) i = cond (ok i) (firstFrom ok k (i + 1)) i
+
+-- the first below n, or n
+abbrev pub firstBad : (ℕ → Bool) → ℕ → ℕ
+firstBad ok n = firstFrom ok n 0

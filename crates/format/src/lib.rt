@@ -1,0 +1,377 @@
+// The manifest: format.rs's `read_manifest`, up to the tiling, and the reading of its parts.
+ghost use mathlib.Core.Path.{_≡_};
+ghost use mathlib.Core.Bool.{cond, not};
+ghost use mathlib.Core.List.{_++_};
+ghost use Prim.Native.Nat.{_+_, _-_, _*_, _≤_, _<_};
+ghost use lib.Dec.{eqb};
+ghost use lib.ListN.{length, take, drop, replicate};
+ghost use Rattle.le.specs.Le.{leAt};
+ghost use Rattle.format.specs.Order.{within as inside};
+ghost use Rattle.format.specs.Fields.{modelLength, metricAt, lengthOf, crcOf};
+ghost use Rattle.format.specs.Head.{opensOk, kindOk, identityOk, countsOk, headNumber, badLength, lengthsOk, configAt, headAt, zeroHead};
+ghost use Rattle.format.specs.Plan.{rises as rising, entryOk, badEntry, rowsOk, crcOk, planNumber};
+ghost use Rattle.format.specs.Layout.{Placed, entryAt};
+use config::Config;
+use config::Metric;
+use config::MetricAnswer;
+
+// "VECGEN01"
+const MAGIC: u64 = 0x3130_4e45_4743_4556;
+
+// The manifest's length and every field before its segment table: what a search compares.
+pub struct Head {
+    pub length: usize,
+    pub generation: u64,
+    pub sequence: u64,
+    pub config: Config,
+    pub model_length: usize,
+    pub model: [u8; 512],
+    pub segments: usize,
+    pub rows: usize,
+}
+
+// Where the parts of a manifest lie.
+pub struct Layout {
+    pub dimensions: usize,
+    pub segments: usize,
+    pub rows: usize,
+    pub table: usize,
+    pub entries: usize,
+}
+
+pub struct Entry {
+    pub id: u64,
+    pub segment: u32,
+    pub offset: u32,
+    pub metadata: u32,
+}
+
+fn wide(x: u32) -> usize
+    ensures { λ r. ⌜ (r ≡ x) × (r < 4294967296) ⌝ }
+{
+    x as usize
+}
+
+fn count_at(m: &[u8], at: usize) -> usize
+    requires { ⌜ at + 4 ≤ length (now m) ⌝ }
+    ensures { λ r. ⌜ (r ≡ leAt 4 (now (m .entry)) at) × (r < 4294967296) ⌝ }
+{
+    wide(le::u32_at(m, at))
+}
+
+fn within(low: usize, high: usize, x: usize) -> bool
+    ensures { λ r. ⌜ r ≡ inside low high x ⌝ }
+{
+    (low <= x) & (x <= high)
+}
+
+// ---- The head.
+
+fn metric(m: &[u8]) -> Metric
+    requires { ⌜ 66 ≤ length (now m) ⌝ }
+    ensures { λ r. ⌜ r ≡ metricAt (now (m .entry)) ⌝ }
+{
+    let answer = Metric::from_byte(m[44]);
+    match answer {
+        MetricAnswer::Known(known) => known,
+        MetricAnswer::Refused(refusal) => Metric::SquaredL2,
+    }
+}
+
+fn read_config(m: &[u8]) -> Config
+    requires { ⌜ 66 ≤ length (now m) ⌝ }
+    ensures { λ r. ⌜ r ≡ configAt (now (m .entry)) ⌝ }
+{
+    Config {
+        dimensions: count_at(m, 24),
+        m: count_at(m, 28),
+        ef_construction: count_at(m, 32),
+        seed: le::u64_at(m, 36),
+        metric: metric(m),
+    }
+}
+
+fn identity_holds(m: &[u8], model: usize) -> bool
+    requires { ⌜ (66 ≤ length (now m)) × (53 + model ≤ length (now m)) × (model ≡ modelLength (now m)) ⌝ }
+    ensures { λ r. ⌜ r ≡ identityOk (now (m .entry)) ⌝ }
+{
+    let config = read_config(m);
+    let end = 49 + model;
+    config.validate() & config::validate_space(&m[49..end], config.dimensions)
+}
+
+// Whether two counts are 0 together.
+fn both_or_none(rows: u64, segments: usize) -> bool
+    ensures { λ r. ⌜ r ≡ cond (eqb rows 0) (eqb segments 0) (not (eqb segments 0)) ⌝ }
+{
+    if rows == 0 {
+        return segments == 0;
+    }
+    segments != 0
+}
+
+fn counts_hold(m: &[u8], model: usize) -> bool
+    requires { ⌜ (length (now m) ≤ 67108864) × (model ≤ 512) × (model ≡ modelLength (now m)) ⌝ }
+    ensures { λ r. ⌜ r ≡ countsOk (now (m .entry)) ⌝ }
+{
+    if m.len() < 65 + model {
+        return false;
+    }
+    let segments = count_at(m, 49 + model);
+    if config::MAX_SEGMENTS < segments {
+        return false;
+    }
+    let rows = le::u64_at(m, 53 + model);
+    if (config::MAX_RECORDS as u64) < rows {
+        return false;
+    }
+    (le::u64_at(m, 8) != 0)
+        & both_or_none(rows, segments)
+        & (m.len() == 65 + model + 12 * segments + 20 * (rows as usize))
+}
+
+fn opens(m: &[u8]) -> bool
+    ensures { λ r. ⌜ r ≡ opensOk (now (m .entry)) ⌝ }
+{
+    if within(66, config::MAX_MANIFEST_BYTES, m.len()) {
+        return le::u64_at(m, 0) == MAGIC;
+    }
+    false
+}
+
+fn kind_holds(m: &[u8]) -> bool
+    requires { ⌜ 66 ≤ length (now m) ⌝ }
+    ensures { λ r. ⌜ r ≡ kindOk (now (m .entry)) ⌝ }
+{
+    (m[44] <= 2) & within(1, 512, count_at(m, 45))
+}
+
+// The number of the first of the head's tests that fails, or 0.
+pub fn head_number(m: &[u8]) -> u32
+    ensures { λ r. ⌜ r ≡ headNumber (now (m .entry)) ⌝ }
+{
+    if !opens(m) {
+        return 1;
+    }
+    if !kind_holds(m) {
+        return 2;
+    }
+    let model = count_at(m, 45);
+    if m.len() < 53 + model {
+        return 1;
+    }
+    if !identity_holds(m, model) {
+        return 2;
+    }
+    if !counts_hold(m, model) {
+        return 1;
+    }
+    0
+}
+
+fn read_model(m: &[u8], n: usize) -> [u8; 512]
+    requires { ⌜ (49 + n ≤ length (now m)) × (n ≤ 512) ⌝ }
+    ensures { λ r. ⌜ r ≡ take n (drop 49 (now (m .entry))) ++ replicate (512 - n) 0 ⌝ }
+{
+    let mut model = [0u8; 512];
+    let mut i = 0;
+    while i < n {
+        model[i] = m[49 + i];
+        i += 1;
+    }
+    model
+}
+
+// The head of a manifest whose head passes its tests; and that of a refusal.
+pub fn read_head(m: &[u8]) -> Head
+    requires { ⌜ headNumber (now m) ≡ 0 ⌝ }
+    ensures { λ r. ⌜ r ≡ headAt (now (m .entry)) ⌝ }
+{
+    let n = count_at(m, 45);
+    Head {
+        length: m.len(),
+        generation: le::u64_at(m, 8),
+        sequence: le::u64_at(m, 16),
+        config: read_config(m),
+        model_length: n,
+        model: read_model(m, n),
+        segments: count_at(m, 49 + n),
+        rows: le::u64_at(m, 53 + n) as usize,
+    }
+}
+
+pub fn zero_head() -> Head
+    ensures { λ r. ⌜ r ≡ zeroHead ⌝ }
+{
+    Head {
+        length: 0,
+        generation: 0,
+        sequence: 0,
+        config: Config {
+            dimensions: 0,
+            m: 0,
+            ef_construction: 0,
+            seed: 0,
+            metric: Metric::SquaredL2,
+        },
+        model_length: 0,
+        model: [0; 512],
+        segments: 0,
+        rows: 0,
+    }
+}
+
+// ---- Segments and entries.
+
+pub fn read_layout(m: &[u8]) -> Layout
+    requires { ⌜ headNumber (now m) ≡ 0 ⌝ }
+    ensures { λ r. ⌜ Placed (now (m .entry)) r ⌝ }
+{
+    let model = count_at(m, 45);
+    let segments = count_at(m, 49 + model);
+    Layout {
+        dimensions: count_at(m, 24),
+        segments: segments,
+        rows: le::u64_at(m, 53 + model) as usize,
+        table: 61 + model,
+        entries: 61 + model + 12 * segments,
+    }
+}
+
+pub fn segment_length(m: &[u8], layout: Layout, n: usize) -> u64
+    requires { ⌜ Placed (now m) layout × (n < layout .segments) ⌝ }
+    ensures { λ r. ⌜ r ≡ lengthOf (now (m .entry)) n ⌝ }
+{
+    le::u64_at(m, layout.table + 12 * n)
+}
+
+pub fn segment_crc(m: &[u8], layout: Layout, n: usize) -> u32
+    requires { ⌜ Placed (now m) layout × (n < layout .segments) ⌝ }
+    ensures { λ r. ⌜ r ≡ crcOf (now (m .entry)) n ⌝ }
+{
+    le::u32_at(m, layout.table + 12 * n + 8)
+}
+
+pub fn read_entry(m: &[u8], layout: Layout, row: usize) -> Entry
+    requires { ⌜ Placed (now m) layout × (row < layout .rows) ⌝ }
+    ensures { λ r. ⌜ r ≡ entryAt (now (m .entry)) row ⌝ }
+{
+    let at = layout.entries + 20 * row;
+    Entry {
+        id: le::u64_at(m, at),
+        segment: le::u32_at(m, at + 8),
+        offset: le::u32_at(m, at + 12),
+        metadata: le::u32_at(m, at + 16),
+    }
+}
+
+// The first segment whose length is out of bounds, or their count.
+fn bad_length(m: &[u8], layout: Layout) -> usize
+    requires { ⌜ Placed (now m) layout ⌝ }
+    ensures { λ r. ⌜ r ≡ badLength (now (m .entry)) ⌝ }
+{
+    let mut n = 0;
+    while n < layout.segments {
+        let length = segment_length(m, layout, n);
+        if !((4 <= length) & (length <= config::MAX_SEGMENT_BYTES as u64)) {
+            return n;
+        }
+        n += 1;
+    }
+    n
+}
+
+pub fn lengths_hold(m: &[u8], layout: Layout) -> bool
+    requires { ⌜ Placed (now m) layout ⌝ }
+    ensures { λ r. ⌜ r ≡ lengthsOk (now (m .entry)) ⌝ }
+{
+    bad_length(m, layout) == layout.segments
+}
+
+fn rises(m: &[u8], layout: Layout, row: usize) -> bool
+    requires { ⌜ Placed (now m) layout × (row < layout .rows) ⌝ }
+    ensures { λ r. ⌜ r ≡ rising (now (m .entry)) row ⌝ }
+{
+    if row == 0 {
+        return true;
+    }
+    let before = read_entry(m, layout, row - 1);
+    let after = read_entry(m, layout, row);
+    before.id < after.id
+}
+
+// Where a record ends in its segment.
+pub fn record_end(e: Entry, dimensions: usize) -> usize
+    requires { ⌜ dimensions ≤ 4096 ⌝ }
+    ensures { λ r. ⌜ (r ≡ e .offset + (12 + 4 * dimensions + e .metadata)) × (r < 8589967360) ⌝ }
+{
+    wide(e.offset) + (12 + 4 * dimensions + wide(e.metadata))
+}
+
+fn entry_holds(m: &[u8], layout: Layout, row: usize) -> bool
+    requires { ⌜ Placed (now m) layout × (row < layout .rows) ⌝ }
+    ensures { λ r. ⌜ r ≡ entryOk (now (m .entry)) row ⌝ }
+{
+    let e = read_entry(m, layout, row);
+    let segment = wide(e.segment);
+    if layout.segments <= segment {
+        return false;
+    }
+    let length = segment_length(m, layout, segment);
+    let end = record_end(e, layout.dimensions) + 4;
+    rises(m, layout, row) & (wide(e.metadata) <= config::MAX_METADATA) & (end as u64 <= length)
+}
+
+// The first row whose entry breaks a rule, or the row count.
+pub fn bad_entry(m: &[u8], layout: Layout) -> usize
+    requires { ⌜ Placed (now m) layout ⌝ }
+    ensures { λ r. ⌜ r ≡ badEntry (now (m .entry)) ⌝ }
+{
+    let mut row = 0;
+    while row < layout.rows {
+        if !entry_holds(m, layout, row) {
+            return row;
+        }
+        row += 1;
+    }
+    row
+}
+
+fn rows_hold(m: &[u8], layout: Layout) -> bool
+    requires { ⌜ Placed (now m) layout ⌝ }
+    ensures { λ r. ⌜ r ≡ rowsOk (now (m .entry)) ⌝ }
+{
+    lengths_hold(m, layout) & (bad_entry(m, layout) == layout.rows)
+}
+
+// ---- All that goes before the tiling.
+
+fn crc_holds(m: &[u8], expected: u32) -> bool
+    requires { ⌜ 66 ≤ length (now m) ⌝ }
+    ensures { λ r. ⌜ r ≡ crcOk (now (m .entry)) expected ⌝ }
+{
+    let end = m.len() - 4;
+    let stored = le::u32_at(m, end);
+    (crc32::crc32(&m[..end]) == stored) & (stored == expected)
+}
+
+// The number of the first test before the tiling that fails, or 0; `room` is the length of the scratch.
+pub fn plan(m: &[u8], expected: u32, room: usize) -> u32
+    ensures { λ r. ⌜ r ≡ planNumber (now (m .entry)) expected room ⌝ }
+{
+    let number = head_number(m);
+    if number != 0 {
+        return number;
+    }
+    let layout = read_layout(m);
+    if !rows_hold(m, layout) {
+        return 1;
+    }
+    if !crc_holds(m, expected) {
+        return 3;
+    }
+    if room < layout.rows {
+        return 11;
+    }
+    0
+}
