@@ -1,3 +1,4 @@
 -- Laws of the manifest's definitions.
 pub mod First
 pub mod Heads
+pub mod Entries

@@ -1,0 +1,60 @@
+-- What an accepted manifest has passed. Assumes nothing.
+use mathlib.Core.Path.{_≡_}
+use mathlib.Core.Bool.{true, cond}
+use mathlib.Core.List.{List}
+use Prim.Native.Nat.{ℕ, suc, _≤_}
+use native.Mathlib.Omega.{arith}
+use lib.Dec.{leb, eqb}
+use lib.ListN.{length}
+use borrow.Author.Tests.{leb-true, eqb-true, eqb-false, eq-eqb}
+use Rattle.le.proofs.Chain.{by, held}
+use Rattle.format.specs.Order.{orElse}
+use Rattle.format.specs.Fields.{rowsOf}
+use Rattle.format.specs.Head.{headNumber}
+use Rattle.format.specs.Plan.{rowsOk, crcOk, planNumber}
+use Rattle.manifest.specs.Tiling.{tiled}
+use Rattle.manifest.specs.Check.{manifestNumber, zeros, scratchAfter, scratchHeld}
+
+-- both tables pass
+pub or-else : (a b : ℕ) → orElse a b ≡ 0 → (a ≡ 0) × (b ≡ 0)
+or-else a b h =
+    by (eqb a 0) (λ e. (eqb-true a 0 e, rw e at h))
+    (λ e. let f : a ≡ 0 = rw e at h in (f, absurd (eqb-false a 0 e f)))
+
+not-zero : {n : ℕ} → suc n ≡ 0 → ⊥
+not-zero e = absurd (omega arith)
+
+pub record Planned (m : List ℕ) (expected room : ℕ) : Type 0 where
+  pub head : headNumber m ≡ 0
+  pub rows : rowsOk m ≡ true
+  pub crc : crcOk m expected ≡ true
+  pub roomy : rowsOf m ≤ room
+
+pub planned : (m : List ℕ) (expected room : ℕ) → planNumber m expected room ≡ 0 → Planned m expected room
+unfolding planNumber
+planned m expected room h =
+    let a = or-else (headNumber m) (cond (rowsOk m) (cond (crcOk m expected) (cond (leb (rowsOf m) room) 0 11) 3) 1) h in
+    let b = held (rowsOk m) not-zero (a .1) in
+    let c = held (crcOk m expected) not-zero (b .1) in
+    let d = held (leb (rowsOf m) room) not-zero (c .1) in
+    record { head = a .0; rows = b .0; crc = c .0; roomy = leb-true (rowsOf m) room (d .0) }
+
+pub accepted : (m : List ℕ) (expected room : ℕ) → manifestNumber m expected room ≡ 0 → Planned m expected room × (tiled m ≡ true)
+unfolding manifestNumber
+accepted m expected room h =
+    let a = or-else (planNumber m expected room) (cond (tiled m) 0 4) h in
+    (planned m expected room (a .0), held (tiled m) not-zero (a .1) .0)
+
+-- the scratch of an accepted manifest, cleared; and that of a refused one
+pub cleared : (m : List ℕ) (expected : ℕ) (t : List ℕ) → manifestNumber m expected (length t) ≡ 0 → zeros t ≡ scratchAfter m expected t
+unfolding manifestNumber scratchAfter
+cleared m expected t h =
+    let a = or-else (planNumber m expected (length t)) (cond (tiled m) 0 4) h in
+    rw (eq-eqb (planNumber m expected (length t)) 0 (a .0))
+
+pub left : (m : List ℕ) (expected : ℕ) (t : List ℕ) → (manifestNumber m expected (length t) ≡ 0 → ⊥) → scratchHeld m expected t ≡ scratchAfter m expected t
+unfolding manifestNumber scratchAfter scratchHeld
+left m expected t h =
+    by (eqb (planNumber m expected (length t)) 0)
+    (λ e. by (tiled m) (λ f. absurd (h (rw (e, f)))) (λ f. rw (e, f)))
+    (λ e. rw e)

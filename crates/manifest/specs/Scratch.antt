@@ -1,0 +1,31 @@
+-- How the scratch holds the rows in order: one number a row, the digits of its segment before those of its offset, and these before its
+-- own, so that the order of the numbers is the order by segment and offset. For rows whose entries keep their rules.
+use mathlib.Core.Bool.{cond}
+use mathlib.Core.List.{List, [], _∷_, _++_, map}
+use Prim.Native.Nat.{ℕ, suc, _+_, _*_, _/_, _%_, _<_}
+use lib.Dec.{eqb}
+use lib.ListN.{length, getD, drop}
+use Rattle.format.specs.Fields.{rowsOf, segmentAt, offsetAt}
+use Rattle.manifest.specs.Tiling.{physical}
+
+unfoldable pub key : List ℕ → ℕ → ℕ
+key m r = (segmentAt m r * 67108864 + offsetAt m r) * 1048576 + r
+
+unfoldable pub keySegment : ℕ → ℕ
+keySegment k = k / 70368744177664
+
+unfoldable pub keyRow : ℕ → ℕ
+keyRow k = k % 1048576
+
+-- the rows in order, and what stood past them
+abbrev pub ordered : List ℕ → List ℕ → List ℕ
+ordered m t = map (key m) (physical m) ++ drop (rowsOf m) t
+
+-- how many numbers from the first on are of segment n
+unfoldable pub run : ℕ → List ℕ → ℕ
+run n [] = 0
+run n (k ∷ ks) = cond (eqb (keySegment k) n) (suc (run n ks)) 0
+
+-- each number's row is below n
+pub record Below (n : ℕ) (ks : List ℕ) : Type 0 where
+  pub at : (i : ℕ) → i < length ks → keyRow (getD ks i 0) < n
