@@ -9,11 +9,11 @@ use Rattle.quantization.specs.Encoder.{largestFrom, scaleBy, notAbove, codeOf, 
 use Rattle.math.specs.Sums.{fold2}
 use Rattle.math.specs.Distance.{inverse, finished, original}
 use Rattle.row.specs.Distance.{squaredL2, innerProduct, cosineBy, distanceOf, approximate}
-use Rattle.row.specs.Answer.{measured, rowAnswer}
+use Rattle.row.specs.Answer.{measured, answer, rowAnswer}
 use Rattle.cases.specs.Cases.{Cases}
 
 pub cases : Cases
-unfolding encode scaleBy largestFrom codeOf notAbove midpoints squares dot within validRow original finished inverse fold2 approximate distanceOf squaredL2 innerProduct cosineBy measured rowAnswer maxZero clamp sqrtOf ofBits add sub mul div neg lt le eq ofInt
+unfolding encode scaleBy largestFrom codeOf notAbove midpoints squares dot within validRow original finished inverse fold2 approximate distanceOf squaredL2 innerProduct cosineBy measured answer rowAnswer maxZero clamp sqrtOf ofBits add sub mul div neg lt le eq ofInt
 cases = record {
   a = refl;
   b = refl;

@@ -32,8 +32,10 @@ abbrev pub isCount : ℤ → ℕ → Bool
 isCount (pos n) w = eqb n w
 isCount (negsuc n) w = false
 
--- "scale finite and above 0, no code -128, norm equal to that sum, and not 0 under cosine"
+-- Document 01, The arithmetic, Row valid: "scale finite and above 0, no code -128, norm equal to that sum, and not 0 under
+-- cosine"; w is the sum of the squared codes, and whole says that no code is beyond the levels
+abbrev pub rowTest : Metric → Float → ℤ → ℕ → Bool → Bool
+rowTest metric scale norm w whole = finite scale && lt nought scale && whole && isCount norm w && not (isCosine metric && isCount norm 0)
+
 unfoldable pub validRow : ℕ → Metric → View → Bool
-validRow levels metric r =
-    finite (r .scale) && lt nought (r .scale) && within levels (r .codes) && isCount (r .norm) (squares (r .codes))
-    && not (isCosine metric && isCount (r .norm) 0)
+validRow levels metric r = rowTest metric (r .scale) (r .norm) (squares (r .codes)) (within levels (r .codes))

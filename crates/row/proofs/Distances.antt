@@ -14,10 +14,10 @@ use mir.Facts.{toZ-ofZ}
 use Rattle.codes.proofs.Numbers.{small}
 use Rattle.config.specs.Refusal.{refused}
 use Rattle.float.specs.Values.{zero}
-use Rattle.quantization.specs.View.{isCount}
+use Rattle.quantization.specs.View.{isCount, rowTest}
 use Rattle.config.specs.Metric.{isCosine}
 use Rattle.config.specs.declared.Metric.{Metric}
-use Rattle.row.specs.Answer.{measured, rowTest}
+use Rattle.row.specs.Answer.{measured}
 use Rattle.row.specs.declared.RowAnswer.the-variants.{Distance, Refused}
 
 pub in-float : (z : ℤ) → natAbs z ≤ 9007199254740992 → T (inFloat binary64 z)

@@ -6,10 +6,10 @@ ghost use lib.ListN.{length};
 ghost use lib.Ieee.{binary64, ofInt};
 ghost use Rattle.float.specs.SquareRoot.{sqrtOf};
 ghost use Rattle.row.specs.Distance.{squaredL2, innerProduct, cosineBy, distanceOf};
-ghost use Rattle.row.specs.Answer.{measured as measuredOf, rowTest, answerBy, viewOf, rowAnswer};
+ghost use Rattle.row.specs.Answer.{measured as measuredOf, answer, viewOf, rowAnswer};
 ghost use Rattle.codes.specs.Codes.{part};
 ghost use Rattle.codes.specs.Sums.{Small};
-ghost use Rattle.quantization.specs.View.{rowAt};
+ghost use Rattle.quantization.specs.View.{rowAt, rowTest};
 use config::Metric;
 use config::Refusal;
 use quantization::Row;
@@ -109,7 +109,7 @@ pub fn row_answer(
     place: u64,
 ) -> RowAnswer
     requires { ⌜ (natAbs (query .norm) ≤ 9007199254740992) × (root ≡ sqrtOf (ofInt binary64 (query .norm))) ⌝ }
-    ensures { λ r. ⌜ r ≡ answerBy metric eligible place (row .scale) (row .norm) squares whole (query .scale) (query .norm) dot ⌝ }
+    ensures { λ r. ⌜ r ≡ answer (rowTest metric (row .scale) (row .norm) squares whole) eligible place (distanceOf metric (row .scale) (row .norm) (query .scale) (query .norm) dot) ⌝ }
 {
     let scale = row.scale;
     let norm = row.norm;
