@@ -86,13 +86,6 @@ pub fn f64_value(bits: u64) -> f64
     f64::from_bits(bits)
 }
 
-pub fn f32_value_at(s: &[u8], at: usize) -> f64
-    requires { ⌜ at + 4 ≤ length (now s) ⌝ }
-    ensures { λ r. ⌜ r ≡ ofBits binary32 (leAt 4 (now (s .entry)) at) ⌝ }
-{
-    f32_value(le::u32_at(s, at))
-}
-
 // At least 0, a NaN becoming +0.
 pub fn max_zero(x: f64) -> f64
     ensures { λ r. ⌜ r ≡ maxZero x ⌝ }

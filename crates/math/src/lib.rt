@@ -69,21 +69,6 @@ pub fn inverse_norm(q: &[f64]) -> f64
     inverse_root(norm)
 }
 
-// That of a record's n coordinates, whatever they are.
-pub fn inverse_norm_at(s: &[u8], at: usize, n: usize) -> f64
-    requires { ⌜ at + 4 * n ≤ length (now s) ⌝ }
-    ensures { λ r. ⌜ r ≡ inverseNorm (floatsAt n (now (s .entry)) at) ⌝ }
-{
-    let mut norm: f64 = -0.0;
-    let mut i = 0;
-    while i < n {
-        let y = float::f32_value_at(s, at + 4 * i);
-        norm = norm + y * y;
-        i += 1;
-    }
-    inverse_root(norm)
-}
-
 // ---- One distance.
 
 // One coordinate more in the metric's sum; and in the record's sum of squares, which cosine alone has.
