@@ -22,7 +22,7 @@ use Rattle.float.proofs.Patterns.{mag, bits-finite, small-bits, pattern-value, 
 use Rattle.float.specs.Values.{zero as nought}
 use Rattle.config.specs.Metric.{isCosine}
 use Rattle.config.specs.declared.Metric.{Metric}
-use Rattle.config.specs.Vector.{all, finites, zeros, validVector, patternsAt, floatsAt, largestFrom, largestBits}
+use Rattle.config.specs.Vector.{all, finites, zeros, validVector, patternsAt, floatsAt, largestPatternFrom, largestBits}
 
 -- ---- a test of every element
 
@@ -84,8 +84,8 @@ max-ltb a b k =
     (λ q. rw (p, q) (le-ltb (max a b) k (omega (arith, ltb-false b k q)))))
     (λ p. rw p (le-ltb (max a b) k (omega (arith, ltb-false a k p))))
 
-pub largest-ltb : (k m : ℕ) (bs : List ℕ) → ltb (largestFrom m bs) k ≡ (ltb m k && all (λ b. ltb (b % 2147483648) k) bs)
-unfolding largestFrom all
+pub largest-ltb : (k m : ℕ) (bs : List ℕ) → ltb (largestPatternFrom m bs) k ≡ (ltb m k && all (λ b. ltb (b % 2147483648) k) bs)
+unfolding largestPatternFrom all
 largest-ltb k m [] = sym (and-true (ltb m k))
 largest-ltb k m (b ∷ bs) =
     largest-ltb k (max m (b % 2147483648)) bs ∙ ap (λ x. x && all (λ b. ltb (b % 2147483648) k) bs) (max-ltb m (b % 2147483648) k)
@@ -180,19 +180,19 @@ by-largest metric n s at =
 
 -- one turn of a loop over the patterns
 pub record Largest (n : ℕ) (s : List ℕ) (at i most : ℕ) : Type 0 where
-  pub so : largestFrom most (patternsAt (n - i) s (at + 4 * i)) ≡ largestBits (patternsAt n s at)
+  pub so : largestPatternFrom most (patternsAt (n - i) s (at + 4 * i)) ≡ largestBits (patternsAt n s at)
 
 module _ {n : ℕ} {s : List ℕ} {at : ℕ} where
   pub largest-start : Largest n s at 0 0
   largest-start = let e : n - 0 ≡ n = omega arith in record { so = rw (e, add-zero at) }
 
   pub largest-turn : {i most next : ℕ} (b : ℕ) → i < n → b ≡ leAt 4 s (at + 4 * i) → next ≡ max most (b % 2147483648) → Largest n s at i most → Largest n s at (i + 1) next
-  unfolding patternsAt largestFrom
+  unfolding patternsAt largestPatternFrom
   largest-turn {i} {most} b h e k f =
       let c : n - i ≡ suc (n - (i + 1)) = omega arith in
       let d : at + 4 * (i + 1) ≡ at + 4 * i + 4 = omega arith in
       record { so = rw (d, k, e) (rw c at (f .so)) }
 
   pub largest-done : {i most : ℕ} → n ≤ i → Largest n s at i most → most ≡ largestBits (patternsAt n s at)
-  unfolding patternsAt largestFrom
+  unfolding patternsAt largestPatternFrom
   largest-done {i} {most} h f = let c : n - i ≡ 0 = omega arith in rw c at (f .so)

@@ -35,10 +35,11 @@ patternsAt (suc n) s at = leAt 4 s at ∷ patternsAt n s (at + 4)
 abbrev pub floatsAt : ℕ → List ℕ → ℕ → List Float
 floatsAt n s at = map (ofBits binary32) (patternsAt n s at)
 
--- the largest pattern without its sign, and most if none is above it
-unfoldable pub largestFrom : ℕ → List ℕ → ℕ
-largestFrom most [] = most
-largestFrom most (b ∷ bs) = largestFrom (max most (b % 2147483648)) bs
+-- the largest magnitude, as a pattern: of the patterns without their signs the largest, and most if none is above it (document 01,
+-- The arithmetic, Encoder: "scale is largest magnitude / 127")
+unfoldable pub largestPatternFrom : ℕ → List ℕ → ℕ
+largestPatternFrom most [] = most
+largestPatternFrom most (b ∷ bs) = largestPatternFrom (max most (b % 2147483648)) bs
 
 abbrev pub largestBits : List ℕ → ℕ
-largestBits bs = largestFrom 0 bs
+largestBits bs = largestPatternFrom 0 bs

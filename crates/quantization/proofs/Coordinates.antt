@@ -37,14 +37,14 @@ of-patterns (x ∷ v) h = let k = all-cons (fits binary32) x v h in rw (ofBits-t
 -- ---- the largest magnitude
 -- a loop over f32s: most is the largest pattern without its sign of those before i
 pub record Largest (v : List Float) (i most : ℕ) : Type 0 where
-  pub so : vector.largestFrom most (map (toBits binary32) (drop i v)) ≡ largestBits (map (toBits binary32) v)
+  pub so : vector.largestPatternFrom most (map (toBits binary32) (drop i v)) ≡ largestBits (map (toBits binary32) v)
 
 pub largest-turn : {v : List Float} {i most next : ℕ} → i < length v → next ≡ max most (toBits binary32 (getD v i nan) % 2147483648) → Largest v i most → Largest v (i + 1) next
-unfolding vector.largestFrom
+unfolding vector.largestPatternFrom
 largest-turn {v} {i} h e f = record { so = rw (e, add-one i) (rw (drop-cons v i nan h) at (f .so)) }
 
 pub largest-done : {v : List Float} {i most : ℕ} → length v ≤ i → Largest v i most → most ≡ largestBits (map (toBits binary32) v)
-unfolding vector.largestFrom
+unfolding vector.largestPatternFrom
 largest-done {v} h f = rw (drop-of-length-le v h) at (f .so)
 
 larger : (m b : ℕ) → m < 2139095040 → b % 2147483648 < 2139095040
@@ -57,8 +57,8 @@ larger m b h k =
     (λ t. let e : max m c ≡ m = omega (arith, ltb-false m c t) in rw (t, e)))
 
 largest-from : (m : ℕ) (bs : List ℕ) → m < 2139095040 → finites (map (ofBits binary32) bs) ≡ true
-    → largestFrom (ofBits binary32 m) (map (ofBits binary32) bs) ≡ ofBits binary32 (vector.largestFrom m bs)
-unfolding largestFrom vector.largestFrom
+    → largestFrom (ofBits binary32 m) (map (ofBits binary32) bs) ≡ ofBits binary32 (vector.largestPatternFrom m bs)
+unfolding largestFrom vector.largestPatternFrom
 largest-from m [] l h = refl
 largest-from m (b ∷ bs) l h =
     let k = all-cons finite (ofBits binary32 b) (map (ofBits binary32) bs) h in

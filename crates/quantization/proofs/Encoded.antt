@@ -26,7 +26,7 @@ use Rattle.float.proofs.Patterns.{mag, mag-pos, plain-value, bits-finite}
 use Rattle.float.proofs.Singles.{most32, positive-parts}
 use Rattle.config.specs.Metric.{isCosine}
 use Rattle.config.specs.declared.Metric.{Metric}
-use Rattle.config.specs.Vector.{all, finites, zeros, validVector, largestFrom, largestBits}
+use Rattle.config.specs.Vector.{all, finites, zeros, validVector, largestPatternFrom, largestBits}
 use Rattle.config.proofs.Vectors.{zeros-largest, finites-largest, largest-ltb}
 use Rattle.codes.specs.Codes.{squares, within}
 use Rattle.quantization.specs.View.{rowBytes, rowAt, validRow}
@@ -122,20 +122,20 @@ full z p h =
     rising : (j : ℕ) → j < 127 → Within (midpoint j) (midpoint 126)
     rising j l = record { fine = tt; bound = tt; order = omega arith }
 
-at-least : (m : ℕ) (bs : List ℕ) → m ≤ largestFrom m bs
-unfolding largestFrom
+at-least : (m : ℕ) (bs : List ℕ) → m ≤ largestPatternFrom m bs
+unfolding largestPatternFrom
 at-least m [] = omega arith
 at-least m (b ∷ bs) = omega (arith, at-least (max m (b % 2147483648)) bs)
 
 -- a code of 127 at the largest pattern makes a norm of 16129 at least
-reaches : (f : ℕ → ℤ) (m : ℕ) (bs : List ℕ) → m < largestFrom m bs → ((b : ℕ) → b % 2147483648 ≡ largestFrom m bs → natAbs (f b) ≡ 127) → 16129 ≤ squares (map f bs)
-unfolding largestFrom squares
+reaches : (f : ℕ → ℤ) (m : ℕ) (bs : List ℕ) → m < largestPatternFrom m bs → ((b : ℕ) → b % 2147483648 ≡ largestPatternFrom m bs → natAbs (f b) ≡ 127) → 16129 ≤ squares (map f bs)
+unfolding largestPatternFrom squares
 reaches f m [] l h = absurd (omega arith)
 reaches f m (b ∷ bs) l h =
     let n = max m (b % 2147483648) in
-    by (ltb n (largestFrom n bs))
-    (λ t. omega (arith, reaches f n bs (ltb-true n (largestFrom n bs) t) h))
-    (λ t. let e : b % 2147483648 ≡ largestFrom n bs = omega (arith, at-least n bs, ltb-false n (largestFrom n bs) t) in rw (h b e) (omega arith))
+    by (ltb n (largestPatternFrom n bs))
+    (λ t. omega (arith, reaches f n bs (ltb-true n (largestPatternFrom n bs) t) h))
+    (λ t. let e : b % 2147483648 ≡ largestPatternFrom n bs = omega (arith, at-least n bs, ltb-false n (largestPatternFrom n bs) t) in rw (h b e) (omega arith))
 
 module _ (bs : List ℕ) (h : finites (map (ofBits binary32) bs) ≡ true) where
   abbrev vector : List Float
