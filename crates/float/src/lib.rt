@@ -362,36 +362,36 @@ fn general_sqrt(x: f64) -> f64
     f64::from_bits(root_bits(bits))
 }
 
-// ---- A quicker way for a number whose last two of 53 digits are 0, as those of a whole number below 2^51 are: V is a
-// multiple of 2^54, and the remainder of one square tells how far m is from the root.
+// ---- A quicker way, without branches that go either way: V is a multiple of 2^52, and the remainder of one square tells
+// how far m is from the root.
 
-// V in units of 2^54.
+// V in units of 2^52.
 fn short_radicand(d: u64, e: u64) -> u64
-    requires { ⌜ (d % 4 ≡ 0) × (2 ^ 52 ≤ d) × (d < 2 ^ 53) ⌝ }
-    ensures { λ r. ⌜ (r * 2 ^ 54 ≡ d * 2 ^ (e % 2 + 52)) × (2 ^ 50 ≤ r) × (r < 2 ^ 52) ⌝ }
+    requires { ⌜ (2 ^ 52 ≤ d) × (d < 2 ^ 53) ⌝ }
+    ensures { λ r. ⌜ (r * 2 ^ 52 ≡ d * 2 ^ (e % 2 + 52)) × (2 ^ 52 ≤ r) × (r ≤ 2 ^ 54 - 2) ⌝ }
 {
     if e % 2 == 0 {
-        return d / 4;
+        return d;
     }
-    d / 2
+    2 * d
 }
 
-// V - m * m + 3 * 2^54 for V = v * 2^54, or 0 where m is far from the root.
+// V - m * m + 3 * 2^54 for V = v * 2^52, or 0 where m is far from the root.
 fn remainder(v: u64, m: u64) -> u64
     requires { ⌜ m < 2 ^ 53 ⌝ }
-    ensures { λ r. ⌜ (0 < r → v * 2 ^ 54 + 3 * 2 ^ 54 ≡ r + m * m) × (r < 2 ^ 59) ⌝ }
+    ensures { λ r. ⌜ (0 < r → v * 2 ^ 52 + 3 * 2 ^ 54 ≡ r + m * m) × (r < 2 ^ 59) ⌝ }
 {
     let a = m / 134217728;
     let b = m % 134217728;
-    let aa = a * a;
+    let aa = 4 * (a * a);
     if v < aa {
         return 0;
     }
     let t = v - aa;
-    if 268435456 <= t {
+    if 536870912 <= t {
         return 0;
     }
-    let w = t * 67108864 + 134217728;
+    let w = t * 16777216 + 134217728;
     let ab = a * b;
     if w < ab {
         return 0;
@@ -421,9 +421,6 @@ fn quick_root_bits(bits: u64, m: u64) -> u64
 {
     let field = bits / 4503599627370496;
     let d = bits % 4503599627370496 + 4503599627370496;
-    if d % 4 != 0 {
-        return 0;
-    }
     let z = remainder(short_radicand(d, 1073 + field), m);
     if 54043195528445952 + 3 * m < z {
         return 0;

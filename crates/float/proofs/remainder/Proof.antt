@@ -9,6 +9,7 @@ remainder-spec =
     tie.close
     (tie.spec
     (λ c. omega (arith, products (c .args .m) (c .pre)))
+    (λ c. omega (arith, products (c .args .m) (c .pre)))
     (λ c. ((λ h. absurd (omega arith)), omega arith))
     (λ c. ((λ h. absurd (omega arith)), omega arith))
     (λ c. search needs)
