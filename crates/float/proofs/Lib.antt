@@ -7,6 +7,7 @@ pub mod Bounds
 pub mod Singles
 pub mod Additions
 pub mod Numbers
+pub mod Quads
 pub mod Squares
 pub mod Scales
 pub mod SquareRoot

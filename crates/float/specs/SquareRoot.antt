@@ -4,9 +4,9 @@
 -- and that nothing else does, is proved.
 use Prim.Native.Nat.{ℕ, zero, suc, _+_, _-_, _*_, _/_, _^_, _≤_, _<_}
 use mathlib.Core.Path.{_≡_}
-use mathlib.Core.Bool.{true, false, cond}
-use lib.Dec.{leb}
-use lib.Ieee.{Float, nan, inf, fin, up, down, size, odd}
+use mathlib.Core.Bool.{true, false, not, cond}
+use lib.Dec.{T, leb}
+use lib.Ieee.{Float, nan, inf, fin, binary64, toBits, isNan, up, down, size, odd}
 use lib.Ieee.Exact.{HasValue}
 use lib.Ieee.Positive.{num, den}
 
@@ -48,6 +48,12 @@ pub record Scale (x : Float) (d e : ℕ) : Type 0 where
   pub low : 1022 ≤ e
   pub high : e ≤ 3119
   pub value : HasValue x false (d * 2 ^ e) (2 ^ 2148)
+
+-- what the code asks of x before it takes the quick way: a positive normal number
+pub record Ordinary (x : Float) : Type 0 where
+  pub number : T (not (isNan x))
+  pub low : 2 ^ 52 ≤ toBits binary64 x
+  pub high : toBits binary64 x < 2047 * 2 ^ 52
 
 -- ---- the function
 

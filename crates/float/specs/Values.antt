@@ -1,4 +1,6 @@
--- Constants, a number without its sign, and what a float that was read from bytes is to a caller.
+-- Constants, four values, a number without its sign, and what a float that was read from bytes is to a caller.
+use mathlib.Core.List.{List, [], _∷_}
+use Prim.Native.Nat.{ℕ}
 use lib.IntN.{pos}
 use mathlib.Core.Bool.{false}
 use lib.Ieee.{Float, nan, inf, fin}
@@ -14,6 +16,10 @@ one = fin false 1 (pos 0)
 
 abbrev pub two : Float
 two = fin false 1 (pos 1)
+
+-- the values at 0, 1, 2 and 3 (document 01, The arithmetic: "four distances in one call")
+abbrev pub quad : (ℕ → Float) → List Float
+quad g = g 0 ∷ g 1 ∷ g 2 ∷ g 3 ∷ []
 
 -- the magnitude (document 01, The arithmetic, Encoder: "largest magnitude")
 abbrev pub abs : Float → Float

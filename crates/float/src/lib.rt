@@ -5,14 +5,14 @@ ghost use mathlib.Core.Path.{_≡_};
 ghost use mathlib.Core.Bool.{true, not};
 ghost use Prim.Native.Nat.{ℕ, _+_, _-_, _*_, _%_, _^_, _≤_, _<_};
 ghost use lib.Dec.{T, leb};
-ghost use lib.ListN.{length};
-ghost use lib.Ieee.{binary32, binary64, ofBits, toBits, isNan};
+ghost use lib.ListN.{length, getD};
+ghost use lib.Ieee.{nan, binary32, binary64, ofBits, toBits, isNan, lt};
 ghost use lib.Ieee.Scale.{finite};
 ghost use Rattle.le.specs.Le.{leAt};
-ghost use Rattle.float.specs.Values.{number, zero, two};
+ghost use Rattle.float.specs.Values.{number, zero, two, quad};
 ghost use Rattle.float.specs.Hold.{maxZero, clamp};
 ghost use Rattle.float.specs.Order.{keyOf, bitsOf};
-ghost use Rattle.float.specs.SquareRoot.{Near, Root, IsRoot, Scale, sqrtOf};
+ghost use Rattle.float.specs.SquareRoot.{Near, Root, IsRoot, Scale, Ordinary, sqrtOf};
 
 // Whether a pattern is a finite number's: the exponent's field is not all ones.
 pub fn is_finite_f32(bits: u32) -> bool
@@ -432,20 +432,69 @@ fn quick_root_bits(bits: u64, m: u64) -> u64
     (1021 + field) / 2 * 4503599627370496 + r
 }
 
+// Whether x is a normal number above 0 and below 2^53.
+fn ordinary(x: f64) -> bool
+    ensures { λ r. ⌜ (r ≡ true → Ordinary x) ⌝ }
+{
+    if x < 9007199254740992.0 {
+        let bits = f64::to_bits(x);
+        return (4503599627370496 <= bits) & (bits < 9218868437227405312);
+    }
+    false
+}
+
+fn guess_of(x: f64) -> u64
+    requires { ⌜ Ordinary x ⌝ }
+    ensures { λ r. ⌜ (2 ^ 52 ≤ r) × (r < 2 ^ 53) ⌝ }
+{
+    guess(x, f64::to_bits(x))
+}
+
+// The root by a guess at its digits; or 0, where the guess is not near enough.
+fn quick_sqrt(x: f64, m: u64) -> f64
+    requires { ⌜ Ordinary x × (2 ^ 52 ≤ m) × (m < 2 ^ 53) ⌝ }
+    ensures { λ r. ⌜ (lt zero r ≡ true → r ≡ sqrtOf x) ⌝ }
+{
+    let r = quick_root_bits(f64::to_bits(x), m);
+    if 0 < r {
+        return f64::from_bits(r);
+    }
+    0.0
+}
+
 // The square root, of any f64.
 pub fn sqrt(x: f64) -> f64
     ensures { λ r. ⌜ r ≡ sqrtOf x ⌝ }
 {
-    if x < 9007199254740992.0 {
-        let bits = f64::to_bits(x);
-        if 4503599627370496 <= bits {
-            if bits < 9218868437227405312 {
-                let r = quick_root_bits(bits, guess(x, bits));
-                if 0 < r {
-                    return f64::from_bits(r);
-                }
-            }
+    if ordinary(x) {
+        let r = quick_sqrt(x, guess_of(x));
+        if 0.0 < r {
+            return r;
         }
     }
     general_sqrt(x)
+}
+
+// Four square roots, whose guesses are made side by side.
+pub fn sqrt_four(x: [f64; 4]) -> [f64; 4]
+    ensures { λ r. ⌜ r ≡ quad (λ k. sqrtOf (getD x k nan)) ⌝ }
+{
+    let a = x[0];
+    let b = x[1];
+    let c = x[2];
+    let d = x[3];
+    if ordinary(a) & ordinary(b) & ordinary(c) & ordinary(d) {
+        let ga = guess_of(a);
+        let gb = guess_of(b);
+        let gc = guess_of(c);
+        let gd = guess_of(d);
+        let ra = quick_sqrt(a, ga);
+        let rb = quick_sqrt(b, gb);
+        let rc = quick_sqrt(c, gc);
+        let rd = quick_sqrt(d, gd);
+        if (0.0 < ra) & (0.0 < rb) & (0.0 < rc) & (0.0 < rd) {
+            return [ra, rb, rc, rd];
+        }
+    }
+    [sqrt(a), sqrt(b), sqrt(c), sqrt(d)]
 }

@@ -1,6 +1,6 @@
 -- Four sums at once, a pair of each a turn. Assumes nothing.
 use Rattle.config.proofs.Coordinates.{valid-parts}
-use mathlib.Core.Path.{_≡_, refl, ap, _∙_}
+use mathlib.Core.Path.{_≡_, ap, _∙_}
 use mathlib.Core.Bool.{true, _&&_, and-eq-true-iff}
 use mathlib.Core.List.{List, [], _∷_}
 use Prim.Native.Nat.{ℕ, zero, suc, _+_, _≤_, _<_}
@@ -8,7 +8,9 @@ use native.Mathlib.Omega.{arith}
 use lib.Dec.{leb}
 use lib.ListN.{length, getD}
 use lib.Ieee.{Float, nan}
+use Rattle.float.specs.Values.{quad}
 use Rattle.float.specs.SquareRoot.{sqrtOf}
+use Rattle.float.proofs.Quads.{four-alike, quad-at}
 use Rattle.config.specs.Metric.{isCosine}
 use Rattle.config.specs.Limits.{maxDimensions}
 use Rattle.config.specs.Vector.{finites, validVector, floatsAt}
@@ -16,20 +18,10 @@ use Rattle.config.specs.declared.Metric.{Metric}
 use Rattle.config.proofs.Vectors.{length-floats}
 use Rattle.math.specs.Sums.{start, dotStep, stepOf}
 use Rattle.math.specs.Distance.{inverse, inverseNorm, finished, original}
-use Rattle.math.specs.Four.{quad, validFive}
+use Rattle.math.specs.Four.{validFive}
 use Rattle.math.proofs.Folds.{Kept, kept-start, kept-turn, kept-done, is-original}
 
--- ---- four values, and the k-th of four lists
-pub four-alike : {a b c d e f g h : Float} → a ≡ e → b ≡ f → c ≡ g → d ≡ h → a ∷ b ∷ c ∷ d ∷ [] ≡ e ∷ f ∷ g ∷ h ∷ []
-four-alike p q r s = rw (p, q, r, s)
-
-pub quad-at : (g : ℕ → Float) (k : ℕ) → k < 4 → getD (quad g) k nan ≡ g k
-quad-at g zero h = refl
-quad-at g (suc zero) h = refl
-quad-at g (suc (suc zero)) h = refl
-quad-at g (suc (suc (suc zero))) h = refl
-quad-at g (suc (suc (suc (suc k)))) h = absurd (omega arith)
-
+-- ---- the k-th of four lists
 abbrev pub pick : List Float → List Float → List Float → List Float → ℕ → List Float
 pick a b c d k = getD (a ∷ b ∷ c ∷ d ∷ []) k []
 

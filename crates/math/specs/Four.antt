@@ -2,21 +2,16 @@
 -- equal to four original distances").
 use mathlib.Core.Bool.{Bool, _&&_, cond}
 use mathlib.Core.List.{List, [], _∷_}
-use Prim.Native.Nat.{ℕ}
 use lib.Dec.{leb}
 use lib.ListN.{length}
 use lib.Ieee.{Float}
-use Rattle.float.specs.Values.{zero}
+use Rattle.float.specs.Values.{zero, quad}
 use Rattle.config.specs.Limits.{maxDimensions}
 use Rattle.config.specs.Refusal.{none, refused}
 use Rattle.config.specs.Vector.{validVector}
 use Rattle.config.specs.declared.Metric.{Metric}
 use Rattle.math.specs.declared.Four.{Four}
 use Rattle.math.specs.Distance.{original}
-
--- the values at 0, 1, 2 and 3
-abbrev pub quad : (ℕ → Float) → List Float
-quad g = g 0 ∷ g 1 ∷ g 2 ∷ g 3 ∷ []
 
 -- "equal to four original distances"
 abbrev pub originalFour : Metric → List Float → List Float → List Float → List Float → List Float → List Float

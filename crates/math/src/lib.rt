@@ -5,12 +5,14 @@ ghost use mathlib.Core.List.{_++_};
 ghost use Prim.Native.Nat.{_+_, _*_, _≤_, _<_};
 ghost use lib.ListN.{length, getD, drop};
 ghost use lib.Ieee.{nan, binary64, sub};
+ghost use Rattle.float.specs.Values.{quad};
 ghost use Rattle.float.specs.SquareRoot.{sqrtOf};
 ghost use Rattle.config.specs.Metric.{isCosine};
+ghost use Rattle.config.specs.declared.Metric.the-variants.{Cosine};
 ghost use Rattle.config.specs.Vector.{floatsAt, finites};
 ghost use Rattle.math.specs.Sums.{dotStep, stepOf};
 ghost use Rattle.math.specs.Distance.{Readable, inverse, inverseNorm, finished, original};
-ghost use Rattle.math.specs.Four.{quad, originalFour, validFive, distanceFour};
+ghost use Rattle.math.specs.Four.{originalFour, validFive, distanceFour};
 use config::Metric;
 use config::Refusal;
 
@@ -46,15 +48,20 @@ fn coordinate_at(s: &[u8], at: usize, n: usize, i: usize) -> f64
 
 // ---- Inverse norms.
 
-// 1 / root(x), or 0 where that root is 0.
+// 1 / root, or 0 where the root is 0.
+fn inverse_of(root: f64) -> f64
+    ensures { λ r. ⌜ r ≡ inverse root ⌝ }
+{
+    if root == 0.0 {
+        return 0.0;
+    }
+    1.0 / root
+}
+
 fn inverse_root(x: f64) -> f64
     ensures { λ r. ⌜ r ≡ inverse (sqrtOf x) ⌝ }
 {
-    let r = float::sqrt(x);
-    if r == 0.0 {
-        return 0.0;
-    }
-    1.0 / r
+    inverse_of(float::sqrt(x))
 }
 
 pub fn inverse_norm(q: &[f64]) -> f64
@@ -91,13 +98,20 @@ fn norm_step(metric: Metric, norm: f64, y: f64) -> f64
     norm
 }
 
+// Cosine, from the dot product, the query's inverse norm and the root of the record's sum of squares.
+fn cosine(sum: f64, q_inverse: f64, root: f64) -> f64
+    ensures { λ r. ⌜ r ≡ finished Cosine sum «q_inverse» (inverse root) ⌝ }
+{
+    float::hold(1.0 - sum * q_inverse * inverse_of(root))
+}
+
 // The distance, from the metric's sum and, under cosine, from the query's inverse norm and the record's sum of squares.
 fn finish(metric: Metric, sum: f64, q_inverse: f64, norm: f64) -> f64
     ensures { λ r. ⌜ r ≡ finished metric sum «q_inverse» (inverse (sqrtOf norm)) ⌝ }
 {
     match metric {
         Metric::SquaredL2 => sum,
-        Metric::Cosine => float::hold(1.0 - sum * q_inverse * inverse_root(norm)),
+        Metric::Cosine => cosine(sum, q_inverse, float::sqrt(norm)),
         Metric::InnerProduct => -sum,
     }
 }
@@ -162,15 +176,25 @@ fn norm_step_four(metric: Metric, norms: [f64; 4], y: [f64; 4]) -> [f64; 4]
     norms
 }
 
+fn cosine_four(sums: [f64; 4], q_inverse: f64, roots: [f64; 4]) -> [f64; 4]
+    ensures { λ r. ⌜ r ≡ quad (λ k. finished Cosine (getD sums k nan) «q_inverse» (inverse (getD roots k nan))) ⌝ }
+{
+    [
+        cosine(sums[0], q_inverse, roots[0]),
+        cosine(sums[1], q_inverse, roots[1]),
+        cosine(sums[2], q_inverse, roots[2]),
+        cosine(sums[3], q_inverse, roots[3]),
+    ]
+}
+
 fn finish_four(metric: Metric, sums: [f64; 4], q_inverse: f64, norms: [f64; 4]) -> [f64; 4]
     ensures { λ r. ⌜ r ≡ quad (λ k. finished metric (getD sums k nan) «q_inverse» (inverse (sqrtOf (getD norms k nan)))) ⌝ }
 {
-    [
-        finish(metric, sums[0], q_inverse, norms[0]),
-        finish(metric, sums[1], q_inverse, norms[1]),
-        finish(metric, sums[2], q_inverse, norms[2]),
-        finish(metric, sums[3], q_inverse, norms[3]),
-    ]
+    match metric {
+        Metric::SquaredL2 => [sums[0], sums[1], sums[2], sums[3]],
+        Metric::Cosine => cosine_four(sums, q_inverse, float::sqrt_four(norms)),
+        Metric::InnerProduct => [-sums[0], -sums[1], -sums[2], -sums[3]],
+    }
 }
 
 // A query and four records of one slice, by their places.

@@ -1,5 +1,4 @@
 use borrow.Author.Needs.{needs}
-use lib.Ieee.{ofBits}
 use Rattle.math.specs.Distance.{finished}
 use Rattle.math.proofs.finish.Statement.{statement}
 use Rattle.math.proofs.finish.Tie as tie
@@ -9,8 +8,7 @@ unfolding finished
 returns c = rw (c .enum-told .given .1)
 
 returns-2 : tie.Need-returns-2
-unfolding finished ofBits
-returns-2 c = rw (c .before .before .enum-told2 .given .1, ← c .before .inverse-root .ensures) (c .hold .ensures)
+returns-2 c = rw (c .before .before .enum-told2 .given .1, ← c .before .sqrt .ensures) (c .cosine .ensures)
 
 returns-3 : tie.Need-returns-3
 unfolding finished

@@ -1,7 +1,18 @@
 use borrow.Author.Needs.{needs}
-use Rattle.math.proofs.Fours.{four-alike}
+use Rattle.math.specs.Distance.{finished}
 use Rattle.math.proofs.finish_four.Statement.{statement}
 use Rattle.math.proofs.finish_four.Tie as tie
+
+returns : tie.Need-returns
+unfolding finished
+returns c = rw (c .enum-told .given .1)
+
+returns-2 : tie.Need-returns-2
+returns-2 c = rw (c .before .before .enum-told2 .given .1) (rw (c .before .sqrt-four .ensures) at (c .cosine-four .ensures))
+
+returns-3 : tie.Need-returns-3
+unfolding finished
+returns-3 c = rw (c .enum-told3 .given .1)
 
 pub finish-four-spec : {M : Type 1} → statement M
 finish-four-spec =
@@ -9,14 +20,17 @@ finish-four-spec =
     (tie.spec
     (λ c. search needs)
     (λ c. search needs)
-    (λ c κs. search needs)
+    (λ c. search needs)
+    (λ c. search needs)
     (λ c. search needs)
     (λ c. search needs)
     (λ c κs. search needs)
-    (λ c. search needs)
-    (λ c. search needs)
     (λ c κs. search needs)
     (λ c. search needs)
     (λ c. search needs)
-    (λ c κs. search needs)
-    (λ c. four-alike (c .before .before .before .finish .ensures) (c .before .before .finish2 .ensures) (c .before .finish3 .ensures) (c .finish4 .ensures)))
+    (λ c. search needs)
+    (λ c. search needs)
+    (λ c. search needs)
+    returns
+    returns-2
+    returns-3)

@@ -9,7 +9,8 @@ use Rattle.config.specs.Metric.{isCosine}
 use Rattle.math.specs.Distance.{inverse}
 use Rattle.math.specs.Sums.{dotStep, stepOf}
 use Rattle.math.proofs.Folds.{Kept, kept-start, kept-turn, kept-done}
-use Rattle.math.proofs.Fours.{Fours, fours-start, fours-turn, pick, four-alike, are-originals, same}
+use Rattle.float.proofs.Quads.{four-alike}
+use Rattle.math.proofs.Fours.{Fours, fours-start, fours-turn, pick, are-originals, same}
 use Rattle.math.proofs.four_of.Statement.{statement}
 use Rattle.math.proofs.four_of.Tie as tie
 

@@ -6,7 +6,8 @@ use lib.Ieee.{neg, ofBits}
 use lib.ListN.{length}
 use Rattle.config.specs.Metric.{isCosine}
 use Rattle.math.specs.Sums.{dotStep, stepOf}
-use Rattle.math.proofs.Fours.{Fours, fours-start, fours-turn, four-alike, are-originals, picked, same-picked}
+use Rattle.float.proofs.Quads.{four-alike}
+use Rattle.math.proofs.Fours.{Fours, fours-start, fours-turn, are-originals, picked, same-picked}
 use Rattle.math.proofs.original_four.Statement.{statement}
 use Rattle.math.proofs.original_four.Tie as tie
 
