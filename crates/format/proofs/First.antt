@@ -37,9 +37,16 @@ module _ (ok : ℕ → Bool) where
       from-pass k (i + 1) j (f ∙ omega arith) (omega (arith, n)) (omega arith)))
       (λ p. let f : i ≡ i + suc k = rw (step k i, p) at e in absurd (omega (arith, f)))
 
+  to-pass : (k i : ℕ) → ((j : ℕ) → j < i + k → ok j ≡ true) → firstFrom ok k i ≡ i + k
+  to-pass zero i h = none i ∙ omega arith
+  to-pass (suc k) i h = rw (step k i, h i (omega arith)) (to-pass k (i + 1) (λ j l. h j (omega arith)) ∙ omega arith)
+
   -- where none fails, each passes; and back
   pub each-passes : (n i : ℕ) → firstBad ok n ≡ n → i < n → ok i ≡ true
   each-passes n i e h = from-pass n 0 i (e ∙ omega arith) (omega arith) (omega arith)
+
+  pub all-pass : (n : ℕ) → ((i : ℕ) → i < n → ok i ≡ true) → firstBad ok n ≡ n
+  all-pass n h = to-pass n 0 (λ j l. h j (omega arith)) ∙ omega arith
 
 module _ {ok : ℕ → Bool} {n i : ℕ} where
   pub reached-turn : i < n → ok i ≡ true → Reached ok n i → Reached ok n (i + 1)

@@ -2,3 +2,4 @@
 pub mod First
 pub mod Heads
 pub mod Entries
+pub mod Same

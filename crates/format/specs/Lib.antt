@@ -4,3 +4,4 @@ pub mod Fields
 pub mod Head
 pub mod Plan
 pub mod Layout
+pub mod Same

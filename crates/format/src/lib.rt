@@ -11,6 +11,7 @@ ghost use Rattle.format.specs.Fields.{modelLength, metricAt, lengthOf, c
 ghost use Rattle.format.specs.Head.{opensOk, kindOk, identityOk, countsOk, headNumber, badLength, lengthsOk, configAt, headAt, zeroHead};
 ghost use Rattle.format.specs.Plan.{rises as rising, entryOk, badEntry, rowsOk, crcOk, planNumber};
 ghost use Rattle.format.specs.Layout.{Placed, entryAt};
+ghost use Rattle.format.specs.Same.{sameBytes, sameConfig, sameFields, sameHead};
 use config::Config;
 use config::Metric;
 use config::MetricAnswer;
@@ -374,4 +375,55 @@ pub fn plan(m: &[u8], expected: u32, room: usize) -> u32
         return 11;
     }
     0
+}
+
+// ---- What a search compares.
+
+fn same_config(a: Config, b: Config) -> bool
+    ensures { λ r. ⌜ r ≡ sameConfig a b ⌝ }
+{
+    let p = a.metric;
+    let q = b.metric;
+    (a.dimensions == b.dimensions)
+        & (a.m == b.m)
+        & (a.ef_construction == b.ef_construction)
+        & (a.seed == b.seed)
+        & (p.byte() == q.byte())
+}
+
+fn same_model(a: [u8; 512], b: [u8; 512]) -> bool
+    ensures { λ r. ⌜ r ≡ sameBytes a b ⌝ }
+{
+    let mut same = true;
+    let mut i = 0;
+    while i < 512 {
+        same = same & (a[i] == b[i]);
+        i += 1;
+    }
+    same
+}
+
+fn same_fields(a: Head, b: Head) -> bool
+    ensures { λ r. ⌜ r ≡ sameFields a b ⌝ }
+{
+    let p = a.model;
+    let q = b.model;
+    (a.length == b.length)
+        & (a.generation == b.generation)
+        & (a.sequence == b.sequence)
+        & same_config(a.config, b.config)
+        & (a.model_length == b.model_length)
+        & same_model(p, q)
+        & (a.segments == b.segments)
+        & (a.rows == b.rows)
+}
+
+// Whether the head passes its tests anew and is the accepted one, and the segment lengths are in their bounds.
+pub fn same_head(m: &[u8], head: Head) -> bool
+    ensures { λ r. ⌜ r ≡ sameHead (now (m .entry)) head ⌝ }
+{
+    if head_number(m) != 0 {
+        return false;
+    }
+    same_fields(read_head(m), head) & lengths_hold(m, read_layout(m))
 }
