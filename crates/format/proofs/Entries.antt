@@ -16,11 +16,14 @@ use Rattle.format.specs.Plan.{rises, entryOk, badEntry, rowsOk}
 use Rattle.format.proofs.First.{each-passes}
 use Rattle.format.proofs.Heads.{both, in-range}
 
-pub length-bounds : (m : List ℕ) (n : ℕ) → rowsOk m ≡ true → n < segmentsOf m → (4 ≤ lengthOf m n) × (lengthOf m n ≤ 67108864)
-unfolding rowsOk lengthsOk
+pub lengths-of : (m : List ℕ) → rowsOk m ≡ true → lengthsOk m ≡ true
+unfolding rowsOk
+lengths-of m ok = both ok .0
+
+pub length-bounds : (m : List ℕ) (n : ℕ) → lengthsOk m ≡ true → n < segmentsOf m → (4 ≤ lengthOf m n) × (lengthOf m n ≤ 67108864)
+unfolding lengthsOk
 length-bounds m n ok h =
-    let l = both ok .0 in
-    in-range 4 maxSegmentBytes (lengthOf m n) (each-passes (λ k. within 4 maxSegmentBytes (lengthOf m k)) (segmentsOf m) n (eqb-true (badLength m) (segmentsOf m) l) h)
+    in-range 4 maxSegmentBytes (lengthOf m n) (each-passes (λ k. within 4 maxSegmentBytes (lengthOf m k)) (segmentsOf m) n (eqb-true (badLength m) (segmentsOf m) ok) h)
 
 -- a row's entry keeps its rules
 pub record Entered (m : List ℕ) (r : ℕ) : Type 0 where
@@ -30,14 +33,10 @@ pub record Entered (m : List ℕ) (r : ℕ) : Type 0 where
   pub end : offsetAt m r + recordLength m r + 4 ≤ lengthOf m (segmentAt m r)
   pub bound : lengthOf m (segmentAt m r) ≤ 67108864
 
-entry-keeps : (m : List ℕ) (r : ℕ) → rowsOk m ≡ true → r < rowsOf m → entryOk m r ≡ true
-unfolding rowsOk
-entry-keeps m r ok h = each-passes (entryOk m) (rowsOf m) r (eqb-true (badEntry m) (rowsOf m) (both {a = lengthsOk m} ok .1)) h
-
-pub entered : (m : List ℕ) (r : ℕ) → rowsOk m ≡ true → r < rowsOf m → Entered m r
+pub entered-by : (m : List ℕ) (r : ℕ) → lengthsOk m ≡ true → entryOk m r ≡ true → Entered m r
 unfolding entryOk
-entered m r ok h =
-    let c = both (entry-keeps m r ok h) in
+entered-by m r ok h =
+    let c = both h in
     let b = both (c .0) in
     let a = both {a = ltb (segmentAt m r) (segmentsOf m)} {b = rises m r} (b .0) in
     let s = ltb-true (segmentAt m r) (segmentsOf m) (a .0) in
@@ -48,6 +47,13 @@ entered m r ok h =
       end = leb-true (offsetAt m r + recordLength m r + 4) (lengthOf m (segmentAt m r)) (c .1);
       bound = length-bounds m (segmentAt m r) ok s .1;
     }
+
+pub entry-keeps : (m : List ℕ) (r : ℕ) → rowsOk m ≡ true → r < rowsOf m → entryOk m r ≡ true
+unfolding rowsOk
+entry-keeps m r ok h = each-passes (entryOk m) (rowsOf m) r (eqb-true (badEntry m) (rowsOf m) (both {a = lengthsOk m} ok .1)) h
+
+pub entered : (m : List ℕ) (r : ℕ) → rowsOk m ≡ true → r < rowsOf m → Entered m r
+entered m r ok h = entered-by m r (lengths-of m ok) (entry-keeps m r ok h)
 
 eq-or-lt : (r s : ℕ) → r < suc s → (r ≡ s) ⊎ (r < s)
 eq-or-lt r s h = ⊎-elim (λ l. inr l) (λ g. inl (omega (arith, g))) (lt-or-le r s)

@@ -24,9 +24,12 @@ module _ (ok : ℕ → Bool) where
   at-i : (n i : ℕ) → i < n → firstFrom ok (n - i) i ≡ cond (ok i) (firstFrom ok (n - (i + 1)) (i + 1)) i
   at-i n i h = let e : n - i ≡ suc (n - (i + 1)) = omega arith in rw e (step (n - (i + 1)) i)
 
-  low : (k i : ℕ) → i ≤ firstFrom ok k i
-  low zero i = rw (none i) (omega arith)
-  low (suc k) i = rw (step k i) (by (ok i) (λ p. rw p (let h = low k (i + 1) in omega (arith, h))) (λ p. rw p (omega arith)))
+  high : (k i : ℕ) → firstFrom ok k i ≤ i + k
+  high zero i = rw (none i) (omega arith)
+  high (suc k) i = rw (step k i) (by (ok i) (λ p. rw p (let h = high k (i + 1) in omega (arith, h))) (λ p. rw p (omega arith)))
+
+  pub first-within : (n : ℕ) → firstBad ok n ≤ n
+  first-within n = let h = high n 0 in omega (arith, h)
 
   from-pass : (k i j : ℕ) → firstFrom ok k i ≡ i + k → i ≤ j → j < i + k → ok j ≡ true
   from-pass zero i j e l h = absurd (omega arith)

@@ -68,7 +68,7 @@ fn within(low: usize, high: usize, x: usize) -> bool
 
 // ---- The head.
 
-fn metric(m: &[u8]) -> Metric
+pub fn metric(m: &[u8]) -> Metric
     requires { ⌜ 66 ≤ length (now m) ⌝ }
     ensures { λ r. ⌜ r ≡ metricAt (now (m .entry)) ⌝ }
 {

@@ -3,11 +3,11 @@ use mathlib.Core.Path.{_≡_, refl, sym, ap, _∙_}
 use mathlib.Core.Logic.{inl, inr, ⊎-elim}
 use mathlib.Core.Bool.{Bool, true, false, cond, true≢false}
 use mathlib.Core.List.{List, [], _∷_, map}
-use Prim.Native.Nat.{ℕ, zero, suc, _+_, _*_, _≤_, _<_}
+use Prim.Native.Nat.{ℕ, zero, suc, _+_, _-_, _*_, _≤_, _<_}
 use native.Mathlib.Omega.{arith}
 use lib.Dec.{leb, eqb}
-use lib.ListN.{length, take, drop, getD, length-map, List·getD-map}
-use lib.Seq.{drop-drop}
+use lib.ListN.{length, take, drop, getD, length-map, List·getD-map, length-drop}
+use lib.Seq.{drop-drop, take-length}
 use borrow.Author.Tests.{le-leb, lt-leb, ne-eqb, leb-true, eqb-true, eqb-false}
 use Rattle.le.proofs.Chain.{by}
 use Rattle.rank.specs.Sort.{_∈_, Pairwise}
@@ -110,11 +110,18 @@ module _ (m : List ℕ) where
     pub so : drop i keys ≡ map (key m) (from n)
 
   -- the rows of segment n are the first of them
-  pub record Part (keys : List ℕ) (i n c : ℕ) : Type 0 where
+  record Part (keys : List ℕ) (i n c : ℕ) : Type 0 where
     pub within : c ≤ length (drop i keys)
     pub part : take c (drop i keys) ≡ map (key m) (inSegment m n)
     pub rows : map keyRow (take c (drop i keys)) ≡ inSegment m n
     pub below : Below (rowsOf m) (take c (drop i keys))
+    pub next : Held keys (i + c) (n + 1)
+
+  -- the same of the keys from i to i + c
+  pub record Found (keys : List ℕ) (i n c : ℕ) : Type 0 where
+    pub ends : i + c ≤ length keys
+    pub rows : map keyRow (take ((i + c) - i) (drop i keys)) ≡ inSegment m n
+    pub below : Below (rowsOf m) (take ((i + c) - i) (drop i keys))
     pub next : Held keys (i + c) (n + 1)
 
   module _ (ok : rowsOk m ≡ true) (few : rowsOf m ≤ 1000000) where
@@ -138,7 +145,7 @@ module _ (m : List ℕ) where
     rows-back [] h = refl
     rows-back (r ∷ rs) h = rw (row-of m r (small m ok few (h r (inl refl))), rows-back rs (λ z i. h z (inr i)))
 
-    pub held-part : {keys : List ℕ} {i n c : ℕ} → Held keys i n → c ≡ run n (drop i keys) → Part keys i n c
+    held-part : {keys : List ℕ} {i n c : ℕ} → Held keys i n → c ≡ run n (drop i keys) → Part keys i n c
     unfolding inSegment
     held-part {keys} {i} {n} {c} h e =
         let l = from n in
@@ -164,3 +171,12 @@ module _ (m : List ℕ) where
           };
           next = record { so = sym (drop-drop c i keys) ∙ rw (h .so, f, drop-map (key m) (run n (map (key m) l)) l, t .1, after) };
         }
+
+    -- what a run over the rest of the keys finds: where the segment's keys end, their rows, and what stands after them
+    pub found : {keys : List ℕ} {i n c : ℕ} → i ≤ length keys → Held keys i n → c ≡ run n (take (length keys - i) (drop i keys)) → Found keys i n c
+    found {keys} {i} {n} {c} l h e =
+        let w : take (length keys - i) (drop i keys) ≡ drop i keys = rw (← length-drop i keys) (take-length (drop i keys)) in
+        let p = held-part h (e ∙ ap (run n) w) in
+        let k = rw (length-drop i keys) at (p .within) in
+        let b : (i + c) - i ≡ c = omega arith in
+        record { ends = omega (arith, k, l); rows = rw b (p .rows); below = rw b (p .below); next = p .next }

@@ -1,18 +1,20 @@
 -- What an accepted manifest has passed. Assumes nothing.
 use mathlib.Core.Path.{_≡_}
 use mathlib.Core.Bool.{true, cond}
-use mathlib.Core.List.{List}
+use mathlib.Core.List.{List, map}
 use Prim.Native.Nat.{ℕ, suc, _≤_}
 use native.Mathlib.Omega.{arith}
 use lib.Dec.{leb, eqb}
-use lib.ListN.{length}
+use lib.ListN.{length, take}
 use borrow.Author.Tests.{leb-true, eqb-true, eqb-false, eq-eqb}
 use Rattle.le.proofs.Chain.{by, held}
 use Rattle.format.specs.Order.{orElse}
 use Rattle.format.specs.Fields.{rowsOf}
 use Rattle.format.specs.Head.{headNumber}
 use Rattle.format.specs.Plan.{rowsOk, crcOk, planNumber}
-use Rattle.manifest.specs.Tiling.{tiled}
+use Rattle.manifest.specs.Tiling.{physical, tiled}
+use Rattle.manifest.specs.Scratch.{key}
+use Rattle.manifest.proofs.Keys.{take-ordered, length-ordered}
 use Rattle.manifest.specs.Check.{manifestNumber, zeros, scratchAfter, scratchHeld}
 
 -- both tables pass
@@ -58,3 +60,12 @@ left m expected t h =
     by (eqb (planNumber m expected (length t)) 0)
     (λ e. by (tiled m) (λ f. absurd (h (rw (e, f)))) (λ f. rw (e, f)))
     (λ e. rw e)
+
+-- an accepted manifest's scratch begins with its rows in order
+pub held-rows : (m : List ℕ) (expected : ℕ) (t : List ℕ) → manifestNumber m expected (length t) ≡ 0
+    → (take (rowsOf m) (scratchHeld m expected t) ≡ map (key m) (physical m)) × (length (scratchHeld m expected t) ≡ length t)
+unfolding manifestNumber scratchHeld
+held-rows m expected t h =
+    let a = accepted m expected (length t) h in
+    let p = or-else (planNumber m expected (length t)) (cond (tiled m) 0 4) h .0 in
+    rw (eq-eqb (planNumber m expected (length t)) 0 p, a .1) (take-ordered m t, length-ordered m t (a .0 .roomy))

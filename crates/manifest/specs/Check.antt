@@ -5,7 +5,8 @@ use mathlib.Core.List.{List}
 use Prim.Native.Nat.{ℕ}
 use lib.Dec.{eqb}
 use lib.ListN.{length, replicate}
-use Rattle.config.specs.Refusal.{none, refused}
+use Rattle.config.specs.Refusal.{refused}
+use Rattle.config.specs.declared.Refusal.{Refusal}
 use Rattle.format.specs.Order.{unless, orElse}
 use Rattle.format.specs.Head.{headAt, zeroHead}
 use Rattle.format.specs.Plan.{planNumber}
@@ -17,13 +18,12 @@ use Rattle.manifest.specs.declared.Checked.{Checked}
 unfoldable pub manifestNumber : List ℕ → ℕ → ℕ → ℕ
 manifestNumber m expected room = orElse (planNumber m expected room) (unless (tiled m) 4 0)
 
--- what is answered: a refusal and zeros, or the head
-unfoldable pub checkedBy : List ℕ → ℕ → Checked
-checkedBy m number =
-    cond (eqb number 0) (record { refusal = none; head = headAt m }) (record { refusal = refused number 0; head = zeroHead })
+-- what is answered: a refusal and zeros, or the head (document 01: "A refusal returns its number and a place"; readings R23)
+unfoldable pub checkedBy : List ℕ → Refusal → Checked
+checkedBy m refusal = record { refusal = refusal; head = cond (eqb (refusal .number) 0) (headAt m) zeroHead }
 
 abbrev pub checked : List ℕ → ℕ → ℕ → Checked
-checked m expected room = checkedBy m (manifestNumber m expected room)
+checked m expected room = checkedBy m (refused (manifestNumber m expected room) 0)
 
 abbrev pub zeros : List ℕ → List ℕ
 zeros t = replicate (length t) 0

@@ -152,24 +152,19 @@ pub fn accept(m: &[u8], expected: u32, scratch: &mut [u64]) -> u32
     4
 }
 
-pub fn answer(m: &[u8], number: u32) -> Checked
-    requires { ⌜ (number ≡ 0 → headNumber (now m) ≡ 0) ⌝ }
-    ensures { λ r. ⌜ r ≡ checkedBy (now (m .entry)) number ⌝ }
+// The answer to a refusal, or to none.
+pub fn answer(m: &[u8], refusal: Refusal) -> Checked
+    requires { ⌜ (refusal .number ≡ 0 → headNumber (now m) ≡ 0) ⌝ }
+    ensures { λ r. ⌜ r ≡ checkedBy (now (m .entry)) refusal ⌝ }
 {
-    if number == 0 {
+    if refusal.number == 0 {
         return Checked {
-            refusal: Refusal {
-                number: 0,
-                place: 0,
-            },
+            refusal: refusal,
             head: format::read_head(m),
         };
     }
     Checked {
-        refusal: Refusal {
-            number: number,
-            place: 0,
-        },
+        refusal: refusal,
         head: format::zero_head(),
     }
 }
@@ -178,9 +173,13 @@ pub fn check(manifest: &[u8], expected_crc: u32, scratch: &mut [u64]) -> Checked
     ensures { λ r. ⌜ (r ≡ checked (now (manifest .entry)) «expected_crc» (length (now (scratch .entry)))) × (now (scratch .exit) ≡ scratchAfter (now (manifest .entry)) «expected_crc» (now (scratch .entry))) ⌝ }
 {
     let number = accept(manifest, expected_crc, scratch);
+    let refusal = Refusal {
+        number: number,
+        place: 0,
+    };
     if number == 0 {
         clear(scratch);
-        return answer(manifest, 0);
+        return answer(manifest, refusal);
     }
-    answer(manifest, number)
+    answer(manifest, refusal)
 }

@@ -6,13 +6,13 @@ use Rattle.manifest.proofs.answer.Tie as tie
 
 returns : tie.Need-returns
 unfolding checkedBy
-returns c = rw (eq-eqb (c .before .before .before .args .number) 0 (c .before .if1 .taken), c .read-head .ensures)
+returns c = rw (eq-eqb (c .before .before .before .before .args .refusal .number) 0 (c .before .if1 .taken), c .read-head .ensures)
 
 returns-2 : tie.Need-returns-2
 unfolding checkedBy
-returns-2 c = rw (ne-eqb (c .before .before .before .args .number) 0 (c .before .if1 .left), c .zero-head .ensures)
+returns-2 c = rw (ne-eqb (c .before .before .before .before .args .refusal .number) 0 (c .before .if1 .left), c .zero-head .ensures)
 
 pub answer-spec : {M : Type 1} → statement M
 answer-spec = tie.close (tie.spec
-    (λ c κs. c .before .before .pre (c .if1 .taken)) returns
+    (λ c κs. c .before .before .before .pre (c .if1 .taken)) returns
     (λ c κs. search needs) returns-2)

@@ -1,6 +1,7 @@
-use mathlib.Core.Path.{sym, ap, _∙_}
+use mathlib.Core.Path.{ap, _∙_}
 use lib.ListN.{length, replicate}
 use borrow.Author.Needs.{needs}
+use Rattle.config.specs.Refusal.{refused}
 use Rattle.manifest.specs.Check.{checkedBy}
 use Rattle.manifest.proofs.Passed.{accepted, cleared, left}
 use Rattle.manifest.proofs.check.Statement.{statement}
@@ -17,7 +18,7 @@ returns c =
     let m = b .args .manifest .now in
     let t = b .args .scratch .now in
     let e = rw (c .before .before .before .before .before .before .before .before .accept .ensures .0) at (c .before .before .before .before .before .if1 .taken) in
-    (c .answer .ensures ∙ ap (checkedBy m) (sym e), c .before .before .before .clear .ensures ∙ ap (λ n. replicate n 0) (c .before .before .before .before .before .before .before .before .accept .kept .1 .1 .0) ∙ cleared m (b .args .expected-crc) t e)
+    (c .answer .ensures ∙ ap (λ n. checkedBy m (refused n 0)) (c .before .before .before .before .before .before .before .before .accept .ensures .0), c .before .before .before .clear .ensures ∙ ap (λ n. replicate n 0) (c .before .before .before .before .before .before .before .before .accept .kept .1 .1 .0) ∙ cleared m (b .args .expected-crc) t e)
 
 returns-2 : tie.Need-returns-2
 returns-2 c =
@@ -25,7 +26,7 @@ returns-2 c =
     let m = b .args .manifest .now in
     let t = b .args .scratch .now in
     let a = c .before .before .before .before .accept .ensures in
-    (c .answer2 .ensures ∙ ap (checkedBy m) (a .0), a .1 ∙ left m (b .args .expected-crc) t (rw (a .0) at (c .before .if1 .left)))
+    (c .answer2 .ensures ∙ ap (λ n. checkedBy m (refused n 0)) (a .0), a .1 ∙ left m (b .args .expected-crc) t (rw (a .0) at (c .before .if1 .left)))
 
 pub check-spec : {M : Type 1} → statement M
 check-spec =

@@ -1,11 +1,10 @@
 use borrow.Author.Needs.{needs}
 use native.Mathlib.Omega.{arith}
-use mathlib.Core.Path.{_≡_, sym, ap, _∙_}
+use mathlib.Core.Path.{_≡_, sym, _∙_}
 use mathlib.Core.List.{List}
 use mathlib.Core.Bool.{Bool}
-use Prim.Native.Nat.{ℕ, _+_, _-_, _≤_, _<_}
-use lib.ListN.{length, take, drop, length-drop}
-use lib.Seq.{take-length}
+use Prim.Native.Nat.{ℕ, _-_, _≤_, _<_}
+use lib.ListN.{length}
 use borrow.Author.Tests.{eq-eqb, ne-eqb, not-true, not-false}
 use Rattle.format.specs.Fields.{segmentsOf, lengthOf}
 use Rattle.format.specs.Layout.{Placed}
@@ -13,7 +12,7 @@ use Rattle.format.specs.declared.Layout.{Layout}
 use Rattle.format.proofs.First.{Reached, reached-start, reached-turn, reached-stop, reached-end}
 use Rattle.manifest.specs.Tiling.{covers, inSegment, tiled}
 use Rattle.manifest.specs.Scratch.{run}
-use Rattle.manifest.proofs.Parts.{Held, held-start, Part, held-part}
+use Rattle.manifest.proofs.Parts.{Held, held-start, Found, found}
 use Rattle.manifest.proofs.tiles.Statement.{statement}
 use Rattle.manifest.proofs.tiles.Tie as tie
 
@@ -26,38 +25,21 @@ Inv-loop m layout keys i₀ n₀ i n = (i ≤ length keys) × (n ≤ layout .seg
 abbrev μ-loop : tie.MeasureT-loop
 μ-loop m layout keys i₀ n₀ i n = layout .segments - n
 
--- the part that the run has found
+-- what the run has found
 part : (c : tie.After-run Inv-loop μ-loop)
     → let L = c .before .before .before .before .loop in
     let b = c .before .before .before .before .before .before .before in
-    Part (b .args .m .now) (b .args .keys .now) (L .i) (L .n) (c .run .result)
+    Found (b .args .m .now) (b .args .keys .now) (L .i) (L .n) (c .run .result)
 part c =
     let L = c .before .before .before .before .loop in
     let b = c .before .before .before .before .before .before .before in
-    let keys = b .args .keys .now in
-    let w : take (length keys - L .i) (drop (L .i) keys) ≡ drop (L .i) keys = rw (← length-drop (L .i) keys) (take-length (drop (L .i) keys)) in
-    held-part (b .args .m .now) (b .pre .1) (b .pre .0 .most) (L .inv .2) (c .run .ensures ∙ ap (run (L .n)) w)
-
--- and where it ends
-ends : (c : tie.After-run Inv-loop μ-loop)
-    → let L = c .before .before .before .before .loop in
-    let b = c .before .before .before .before .before .before .before in
-    L .i + c .run .result ≤ length (b .args .keys .now)
-ends c =
-    let L = c .before .before .before .before .loop in
-    let b = c .before .before .before .before .before .before .before in
-    let h = rw (length-drop (L .i) (b .args .keys .now)) at (part c .within) in
-    omega (arith, h, L .inv .0)
-
-back : (i k : ℕ) → (i + k) - i ≡ k
-back i k = omega arith
+    found (b .args .m .now) (b .pre .1) (b .pre .0 .most) (L .inv .0) (L .inv .2) (c .run .ensures)
 
 covered : tie.Need-covers-requires Inv-loop μ-loop
 covered c κs =
     let d = c .before .before in
-    let L = d .before .before .before .before .loop in
     let b = d .before .before .before .before .before .before .before in
-    (b .pre .0, rw (back (L .i) (d .run .result), b .pre .0 .rows) (part d .below))
+    (b .pre .0, rw (b .pre .0 .rows) (part d .below))
 
 -- what the walk of a segment has answered
 said : (c : tie.After-covers Inv-loop μ-loop)
@@ -65,8 +47,7 @@ said : (c : tie.After-covers Inv-loop μ-loop)
     let b = c .before .before .before .before .before .before .before .before .before .before in
     c .covers .result ≡ good (b .args .m .now) (L .n)
 said c =
-    let L = c .before .before .before .before .before .before .before .loop in
-    c .covers .ensures ∙ rw (c .before .before .segment-length .ensures, back (L .i) (c .before .before .before .run .result), part (c .before .before .before) .rows)
+    c .covers .ensures ∙ rw (c .before .before .segment-length .ensures, part (c .before .before .before) .rows)
 
 within : {m : List ℕ} {l : Layout} {n : ℕ} → Placed m l → n < l .segments → n < segmentsOf m
 within p h = rw (p .segments) at h
@@ -105,12 +86,12 @@ tiles-spec =
     (λ c. search needs)
     (λ c. search needs)
     (λ c κs. search needs)
-    (λ c. let h = ends c in omega (arith, h))
+    (λ c. let h = part c .ends in omega (arith, h))
     (λ c κs. search needs)
     (λ c. search needs)
     (λ c. search needs)
-    (λ c. let h = ends (c .before) in omega (arith, h))
-    (λ c. ends (c .before))
+    (λ c. let h = part (c .before) .ends in omega (arith, h))
+    (λ c. part (c .before) .ends)
     covered
     returns
     (λ c. search needs)
@@ -120,5 +101,5 @@ tiles-spec =
     let L = r .before .before .before .before .loop in
     let b = r .before .before .before .before .before .before .before in
     let h = within (b .pre .0) (d .before .before .before .before .before .if1 .taken) in
-    (ends r, search needs, part r .next, reached-turn h (not-false (good (b .args .m .now) (L .n)) (rw (said d) at (c .if2 .left))) (L .inv .3)))
+    (part r .ends, search needs, part r .next, reached-turn h (not-false (good (b .args .m .now) (L .n)) (rw (said d) at (c .if2 .left))) (L .inv .3)))
     returns-2)

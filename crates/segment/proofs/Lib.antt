@@ -1,0 +1,2 @@
+-- Laws of records and segments.
+pub mod Places

@@ -1,0 +1,43 @@
+use borrow.Author.Needs.{needs}
+use native.Mathlib.Omega.{arith}
+use mathlib.Core.Path.{_≡_, sym}
+use Prim.Native.Nat.{ℕ, _+_, _-_, _*_, _≤_}
+use lib.ListN.{replicate, length-replicate}
+use Rattle.segment.specs.Record.{startOf}
+use Rattle.segment.proofs.Places.{start-none, Upto, upto-none, upto-more, next-start}
+use Rattle.segment.proofs.starts.Statement.{statement}
+use Rattle.segment.proofs.starts.Tie as tie
+
+abbrev Inv-loop : tie.InvT-loop
+Inv-loop m layout starts₀ sum₀ n₀ starts sum n = (n ≤ layout .segments) × (sum ≡ startOf m n) × Upto m starts n
+
+abbrev μ-loop : tie.MeasureT-loop
+μ-loop m layout starts₀ sum₀ n₀ starts sum n = layout .segments - n
+
+more : (c : tie.After-segment-length Inv-loop μ-loop)
+    → let L = c .before .before .before .loop in
+    let m = c .before .before .before .before .before .args .m .now in
+    (L .sum + c .segment-length .result ≡ startOf m (L .n + 1)) × (L .sum + c .segment-length .result ≤ 1024 * 67108864)
+more c =
+    let b = c .before .before .before .before .before in
+    next-start (b .args .m .now) (b .args .layout) (b .pre .0) (b .pre .1) (c .before .if1 .taken) (c .before .before .before .loop .inv .1) (c .segment-length .ensures)
+
+pub starts-spec : {M : Type 1} → statement M
+starts-spec =
+    tie.close
+    (tie.spec
+    Inv-loop
+    μ-loop
+    (λ c. (search needs, sym (start-none (c .before .args .m .now)), upto-none (c .before .args .m .now) (replicate 1024 0) (length-replicate {A = ℕ} 1024 0)))
+    (λ c. search needs)
+    (λ c. let b = c .before .before .before .before in omega (arith, c .if1 .taken, b .pre .0 .segments, b .pre .0 .few))
+    (λ c κs. search needs)
+    (λ c. let h = more c .1 in omega (arith, h))
+    (λ c. search needs)
+    (λ c. search needs)
+    (λ c. let L = c .before .before .before .loop in
+    let b = c .before .before .before .before .before in
+    (search needs, more c .0, upto-more (omega (arith, c .before .if1 .taken, b .pre .0 .segments, b .pre .0 .few)) (L .inv .1) (L .inv .2)))
+    (λ c. let L = c .before .before .loop in
+    let b = c .before .before .before .before in
+    record { at = λ n h. L .inv .2 .at n (omega (arith, h, c .if1 .left, b .pre .0 .segments)) }))

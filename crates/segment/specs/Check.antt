@@ -1,0 +1,54 @@
+-- The segment check (document 01, What each place turns away: "Segments go by number: length of the whole slice first, then each segment's
+-- records by offset (5), then its 6"; places: "the row number for .. 5 at a record", "the segment number for 6, otherwise 0").
+use mathlib.Core.Bool.{Bool, cond, _&&_}
+use mathlib.Core.List.{List}
+use Prim.Native.Nat.{ℕ, _+_, _-_}
+use lib.Dec.{eqb}
+use lib.ListN.{length, getD, take, drop}
+use Rattle.le.specs.Le.{leAt}
+use Rattle.crc32.specs.Crc.{crc32}
+use Rattle.config.specs.Refusal.{none, refused}
+use Rattle.config.specs.declared.Refusal.{Refusal}
+use Rattle.format.specs.Fields.{segmentsOf, lengthOf, crcOf}
+use Rattle.format.specs.Order.{firstBad}
+use Rattle.manifest.specs.Tiling.{inSegment}
+use Rattle.manifest.specs.Check.{manifestNumber, checkedBy}
+use Rattle.manifest.specs.declared.Checked.{Checked}
+use Rattle.segment.specs.Record.{startOf, recordOk}
+
+-- the first of these rows, by its place among them, whose record fails; their count where none does
+abbrev pub badRecord : List ℕ → List ℕ → List ℕ → ℕ
+badRecord m s rows = firstBad (λ i. recordOk m s (getD rows i 0)) (length rows)
+
+-- "segment CRC-32 wrong, or not the manifest's": of all but the segment's last 4 bytes, which hold it
+abbrev pub insideOf : List ℕ → List ℕ → ℕ → List ℕ
+insideOf m s n = take (lengthOf m n - 4) (drop (startOf m n) s)
+
+unfoldable pub segmentCrcOk : List ℕ → List ℕ → ℕ → Bool
+segmentCrcOk m s n = eqb (crc32 (insideOf m s n)) (leAt 4 s (startOf m n + (lengthOf m n - 4))) && eqb (crc32 (insideOf m s n)) (crcOf m n)
+
+-- the rows of segment n by offset, then its CRC-32
+unfoldable pub rowsRefusal : List ℕ → List ℕ → ℕ → List ℕ → Refusal
+rowsRefusal m s n rows =
+    cond (eqb (badRecord m s rows) (length rows)) (cond (segmentCrcOk m s n) none (refused 6 n)) (refused 5 (getD rows (badRecord m s rows) 0))
+
+abbrev pub segmentRefusal : List ℕ → List ℕ → ℕ → Refusal
+segmentRefusal m s n = rowsRefusal m s n (inSegment m n)
+
+-- the first segment that is refused, or their count
+abbrev pub badSegment : List ℕ → List ℕ → ℕ
+badSegment m s = firstBad (λ n. eqb (segmentRefusal m s n .number) 0) (segmentsOf m)
+
+unfoldable pub inOrder : List ℕ → List ℕ → Refusal
+inOrder m s = cond (eqb (badSegment m s) (segmentsOf m)) none (segmentRefusal m s (badSegment m s))
+
+unfoldable pub segmentsRefusal : List ℕ → List ℕ → Refusal
+segmentsRefusal m s = cond (eqb (length s) (startOf m (segmentsOf m))) (inOrder m s) (refused 5 0)
+
+-- the manifest is tested anew first (readings R12)
+unfoldable pub libraryRefusal : List ℕ → ℕ → ℕ → List ℕ → Refusal
+libraryRefusal m expected room s =
+    cond (eqb (manifestNumber m expected room) 0) (segmentsRefusal m s) (refused (manifestNumber m expected room) 0)
+
+abbrev pub checkedLibrary : List ℕ → ℕ → ℕ → List ℕ → Checked
+checkedLibrary m expected room s = checkedBy m (libraryRefusal m expected room s)
