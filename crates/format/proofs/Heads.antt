@@ -19,7 +19,7 @@ use Rattle.format.specs.declared.Layout.{Layout}
 pub both : {a b : Bool} → (a && b) ≡ true → (a ≡ true) × (b ≡ true)
 both {a} {b} h = and-eq-true-iff a b .0 h
 
-not-zero : {n : ℕ} → suc n ≡ 0 → ⊥
+pub not-zero : {n : ℕ} → suc n ≡ 0 → ⊥
 not-zero e = absurd (omega arith)
 
 -- the tests of a head, all passed

@@ -40,14 +40,14 @@ bytes-done a b i h k = rw (drop-of-length-le a h, drop-of-length-le b k)
 
 -- ---- the comparison is equality
 
-bytes-eq : (a b : List ℕ) → sameBytes a b ≡ true → a ≡ b
+pub bytes-eq : (a b : List ℕ) → sameBytes a b ≡ true → a ≡ b
 unfolding sameBytes
 bytes-eq [] [] h = refl
 bytes-eq (x ∷ a) (y ∷ b) h = let p = both {a = eqb x y} h in rw (eqb-true x y (p .0), bytes-eq a b (p .1))
 bytes-eq [] (y ∷ b) h = let z : _≡_ {A = ℕ} 0 1 = cc in absurd (omega arith)
 bytes-eq (x ∷ a) [] h = let z : _≡_ {A = ℕ} 0 1 = cc in absurd (omega arith)
 
-bytes-refl : (a : List ℕ) → sameBytes a a ≡ true
+pub bytes-refl : (a : List ℕ) → sameBytes a a ≡ true
 unfolding sameBytes
 bytes-refl [] = refl
 bytes-refl (x ∷ a) = rw (eq-eqb x x refl, bytes-refl a)
@@ -133,7 +133,7 @@ lengths-hold m h =
 
 -- ---- equal before the segments: the same head
 
-inside : (t p n : ℕ) (s : List ℕ) → t ≤ length s → p + n ≤ t → take n (drop p (take t s)) ≡ take n (drop p s)
+pub inside : (t p n : ℕ) (s : List ℕ) → t ≤ length s → p + n ≤ t → take n (drop p (take t s)) ≡ take n (drop p s)
 inside t p n s h k =
     sym (part-before n p (take t s) (drop t s) (rw (length-take-le t s h) k)) ∙ ap (λ (x : List ℕ). take n (drop p x)) (take-append-drop t s)
 
@@ -199,7 +199,7 @@ unfolding kindOk metricAt
 byte-in m e = byte-back (metricByte m) (leb-true (metricByte m) 2 (both {a = leb (metricByte m) 2} (headed m e .kind) .0))
 
 -- a number tells its bytes
-bytes-in : (n p : ℕ) (s : List ℕ) → AllBytes s → p + n ≤ length s → bytes n (leAt n s p) ≡ take n (drop p s)
+pub bytes-in : (n p : ℕ) (s : List ℕ) → AllBytes s → p + n ≤ length s → bytes n (leAt n s p) ≡ take n (drop p s)
 bytes-in n p s b h =
     let l : length (take n (drop p s)) ≡ n = length-take-le n (drop p s) (rw (length-drop p s) (omega arith)) in
     rw l at (bytes-le (take n (drop p s)) (take-bytes n (drop p s) (drop-bytes p s b)))

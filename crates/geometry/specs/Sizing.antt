@@ -1,0 +1,31 @@
+-- Sizing (document 01, What each place turns away, sizing; "Preparing: 10, 7, 8, 9", "Opening: 10, 7, 8, 9"). Platform, root and manifest
+-- are given by their lengths, cache limit and block are the options.
+use mathlib.Core.Bool.{Bool, _&&_}
+use Prim.Native.Nat.{ℕ, _+_, _*_}
+use lib.Dec.{leb}
+use Rattle.config.specs.Limits.{maxCodeBytes, maxCacheBytes}
+use Rattle.format.specs.Order.{unless, within}
+use Rattle.geometry.specs.Cache.{identityLength, rowLength, cacheSize}
+
+-- "10: platform name over 64 bytes (added), root over 1,048,576"
+abbrev pub placeOk : ℕ → ℕ → Bool
+placeOk platform root = leb platform 64 && leb root 1048576
+
+-- "7: cache limit 0 or over 1,073,741,824, block under one row or over 16,777,216"
+abbrev pub optionsOk : ℕ → ℕ → ℕ → Bool
+optionsOk limit block row = within 1 maxCacheBytes limit && within row 16777216 block
+
+-- "8: rows × dimensions over 536,870,912"
+abbrev pub codesOk : ℕ → ℕ → Bool
+codesOk rows dimensions = leb (rows * dimensions) maxCodeBytes
+
+-- "9: cache size + 8 over the cache limit"
+abbrev pub sizeOk : ℕ → ℕ → Bool
+sizeOk size limit = leb (size + 8) limit
+
+unfoldable pub sizingNumber : ℕ → ℕ → ℕ → ℕ → ℕ → ℕ → ℕ → ℕ
+sizingNumber platform root limit block manifest rows dimensions =
+    unless (placeOk platform root) 10
+    (unless (optionsOk limit block (rowLength dimensions)) 7
+    (unless (codesOk rows dimensions) 8
+    (unless (sizeOk (cacheSize (identityLength platform root manifest) rows dimensions) limit) 9 0)))
