@@ -31,6 +31,16 @@ module _ (ok : ℕ → Bool) where
   pub first-within : (n : ℕ) → firstBad ok n ≤ n
   first-within n = let h = high n 0 in omega (arith, h)
 
+  fails-from : (k i : ℕ) → firstFrom ok k i < i + k → ok (firstFrom ok k i) ≡ false
+  fails-from zero i h = let e = none i in absurd (omega (arith, h, e))
+  fails-from (suc k) i h =
+      by (ok i)
+      (λ p. let e : firstFrom ok (suc k) i ≡ firstFrom ok k (i + 1) = step k i ∙ rw p in rw e (fails-from k (i + 1) (omega (arith, h, e))))
+      (λ p. let e : firstFrom ok (suc k) i ≡ i = step k i ∙ rw p in rw (e, p))
+
+  pub first-fails : (n : ℕ) → firstBad ok n < n → ok (firstBad ok n) ≡ false
+  first-fails n h = fails-from n 0 (omega (arith, h))
+
   from-pass : (k i j : ℕ) → firstFrom ok k i ≡ i + k → i ≤ j → j < i + k → ok j ≡ true
   from-pass zero i j e l h = absurd (omega arith)
   from-pass (suc k) i j e l h =

@@ -8,12 +8,13 @@ use native.Mathlib.Omega.{arith}
 use lib.Dec.{leb, eqb}
 use lib.ListN.{length, take, drop, getD, length-map, List·getD-map, length-drop}
 use lib.Seq.{drop-drop, take-length}
-use borrow.Author.Tests.{le-leb, lt-leb, ne-eqb, leb-true, eqb-true, eqb-false}
+use borrow.Author.Tests.{le-leb, lt-leb, ne-eqb, leb-true, eqb-true, eqb-false, eq-eqb}
 use Rattle.le.proofs.Chain.{by}
 use Rattle.rank.specs.Sort.{_∈_, Pairwise}
 use Rattle.rank.specs.Limit.{byKey}
 use Rattle.rank.specs.Rows.{passing}
-use Rattle.rank.proofs.Sort.{ascending-sort}
+use Rattle.rank.proofs.Sort.{ascending-sort, to-sort}
+use Rattle.rank.proofs.Rows.{passing-complete}
 use Rattle.rank.proofs.ByKey.{order}
 use Rattle.rank.proofs.Members.{take-map, mem-getD}
 use Rattle.format.specs.Fields.{rowsOf, segmentAt, offsetAt}
@@ -30,6 +31,21 @@ from-keep ok z (x ∷ xs) h =
     (λ p. let k : z ∈ (x ∷ keep ok xs) = rw p at h in
     ⊎-elim {C = (z ∈ (x ∷ xs)) × (ok z ≡ true)} (λ (e : z ≡ x). (inl e, rw e p)) (λ i. let t = from-keep ok z xs i in (inr (t .0), t .1)) k)
     (λ p. let k : z ∈ keep ok xs = rw p at h in let t = from-keep ok z xs k in (inr (t .0), t .1))
+
+to-keep : (ok : ℕ → Bool) (z : ℕ) (l : List ℕ) → z ∈ l → ok z ≡ true → z ∈ keep ok l
+to-keep ok z [] h e = absurd h
+to-keep ok z (x ∷ xs) h e =
+    by (ok x)
+    (λ p. rw p (⊎-elim {C = z ∈ (x ∷ keep ok xs)} (λ (q : z ≡ x). inl q) (λ i. inr (to-keep ok z xs i e)) h))
+    (λ p. rw p (⊎-elim {C = z ∈ keep ok xs} (λ (q : z ≡ x). absurd (true≢false (sym e ∙ rw q p))) (λ i. to-keep ok z xs i e) h))
+
+-- each row is among those of its segment
+pub of-segment : (m : List ℕ) (r : ℕ) → r < rowsOf m → r ∈ inSegment m (segmentAt m r)
+unfolding physical inSegment
+of-segment m r h =
+    to-keep (λ t. eqb (segmentAt m t) (segmentAt m r)) r (physical m)
+    (to-sort (byKey (position m)) r (passing (λ t. true) (rowsOf m)) (passing-complete (λ t. true) (rowsOf m) r h refl))
+    (eq-eqb (segmentAt m r) (segmentAt m r) refl)
 
 pub keep-all : (ok : ℕ → Bool) (l : List ℕ) → ((z : ℕ) → z ∈ l → ok z ≡ true) → keep ok l ≡ l
 keep-all ok [] h = refl
@@ -137,7 +153,7 @@ module _ (m : List ℕ) where
     in-from : (n r : ℕ) → r ∈ from n → r < rowsOf m
     in-from n r i = in-rows m ok few r (from-keep (λ r. leb n (segmentAt m r)) r (physical m) i .0)
 
-    in-segment : (n r : ℕ) → r ∈ inSegment m n → r < rowsOf m
+    pub in-segment : (n r : ℕ) → r ∈ inSegment m n → r < rowsOf m
     unfolding inSegment
     in-segment n r i = in-rows m ok few r (from-keep (λ r. eqb (segmentAt m r) n) r (physical m) i .0)
 

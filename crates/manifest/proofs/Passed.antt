@@ -6,7 +6,7 @@ use Prim.Native.Nat.{ℕ, suc, _≤_}
 use native.Mathlib.Omega.{arith}
 use lib.Dec.{leb, eqb}
 use lib.ListN.{length, take}
-use borrow.Author.Tests.{leb-true, eqb-true, eqb-false, eq-eqb}
+use borrow.Author.Tests.{leb-true, le-leb, eqb-true, eqb-false, eq-eqb}
 use Rattle.le.proofs.Chain.{by, held}
 use Rattle.format.specs.Order.{orElse}
 use Rattle.format.specs.Fields.{rowsOf}
@@ -40,6 +40,10 @@ planned m expected room h =
     let c = held (crcOk m expected) not-zero (b .1) in
     let d = held (leb (rowsOf m) room) not-zero (c .1) in
     record { head = a .0; rows = b .0; crc = c .0; roomy = leb-true (rowsOf m) room (d .0) }
+
+pub plans : {m : List ℕ} {expected room : ℕ} → Planned m expected room → planNumber m expected room ≡ 0
+unfolding planNumber
+plans {m} {expected} {room} p = rw (eq-eqb (headNumber m) 0 (p .head), p .rows, p .crc, le-leb (rowsOf m) room (p .roomy))
 
 pub accepted : (m : List ℕ) (expected room : ℕ) → manifestNumber m expected room ≡ 0 → Planned m expected room × (tiled m ≡ true)
 unfolding manifestNumber

@@ -1,2 +1,3 @@
 -- Laws of records and segments.
 pub mod Places
+pub mod Library

@@ -1,0 +1,107 @@
+-- What an accepted library is: its entries lie in the segments, ids rise, each record passes its test; and such a library is accepted.
+-- Assumes nothing.
+use mathlib.Core.Path.{_≡_, refl, sym, ap, _∙_}
+use mathlib.Core.Bool.{Bool, true, false, cond, true≢false}
+use mathlib.Core.List.{List}
+use Prim.Native.Nat.{ℕ, suc, _+_, _≤_, _<_}
+use native.Mathlib.Omega.{arith}
+use lib.Dec.{eqb}
+use lib.ListN.{length, getD}
+use borrow.Author.Tests.{eqb-true, eqb-false, eq-eqb}
+use Rattle.le.proofs.Chain.{by}
+use Rattle.rank.proofs.Members.{all-at, mem-getD}
+use Rattle.config.specs.Refusal.{none, refused}
+use Rattle.config.specs.declared.Refusal.{Refusal}
+use Rattle.format.specs.Fields.{segmentsOf, rowsOf, idAt, segmentAt, recordLength}
+use Rattle.format.specs.Plan.{planNumber}
+use Rattle.format.proofs.Heads.{bounds}
+use Rattle.format.proofs.First.{each-passes, all-pass, first-within, first-fails}
+use Rattle.format.proofs.Entries.{Entered, entered, entry-keeps, lengths-of, ids-rise}
+use Rattle.manifest.specs.Tiling.{inSegment, tiled}
+use Rattle.manifest.specs.Check.{manifestNumber}
+use Rattle.manifest.proofs.Passed.{Planned, accepted, plans}
+use Rattle.manifest.proofs.Parts.{of-segment, in-segment}
+use Rattle.segment.specs.Record.{startOf, recordAt, recordOk}
+use Rattle.segment.specs.Check.{badRecord, segmentCrcOk, rowsRefusal, segmentRefusal, badSegment, inOrder, segmentsRefusal, libraryRefusal}
+use Rattle.segment.proofs.Places.{record-within}
+
+-- a refusal with a number is none of the two
+held-number : (t : Bool) (a b : Refusal) → (b .number ≡ 0 → ⊥) → cond t a b .number ≡ 0 → (t ≡ true) × (a .number ≡ 0)
+held-number true a b n e = (refl, e)
+held-number false a b n e = absurd (n e)
+
+not-zero : {n : ℕ} → suc n ≡ 0 → ⊥
+not-zero e = absurd (omega arith)
+
+-- a segment that is not refused: its rows' records pass, and its CRC-32
+rows-pass : (m s : List ℕ) (n : ℕ) (rows : List ℕ) → rowsRefusal m s n rows .number ≡ 0
+    → ((i : ℕ) → i < length rows → recordOk m s (getD rows i 0) ≡ true) × (segmentCrcOk m s n ≡ true)
+unfolding rowsRefusal
+rows-pass m s n rows h =
+    let a = held-number (eqb (badRecord m s rows) (length rows)) (cond (segmentCrcOk m s n) none (refused 6 n)) (refused 5 (getD rows (badRecord m s rows) 0)) not-zero h in
+    let b = held-number (segmentCrcOk m s n) none (refused 6 n) not-zero (a .1) in
+    ((λ i k. each-passes (λ j. recordOk m s (getD rows j 0)) (length rows) i (eqb-true (badRecord m s rows) (length rows) (a .0)) k), b .0)
+
+-- all segments in order
+order-pass : (m s : List ℕ) (n : ℕ) → inOrder m s .number ≡ 0 → n < segmentsOf m → segmentRefusal m s n .number ≡ 0
+unfolding inOrder
+order-pass m s n h k =
+    let ok : ℕ → Bool = λ i. eqb (segmentRefusal m s i .number) 0 in
+    by (eqb (badSegment m s) (segmentsOf m))
+    (λ e. eqb-true (segmentRefusal m s n .number) 0 (each-passes ok (segmentsOf m) n (eqb-true (badSegment m s) (segmentsOf m) e) k))
+    (λ e. let f : segmentRefusal m s (badSegment m s) .number ≡ 0 = rw e at h in
+    let w = first-within ok (segmentsOf m) in
+    let d = eqb-false (badSegment m s) (segmentsOf m) e in
+    absurd (true≢false (sym (eq-eqb (segmentRefusal m s (badSegment m s) .number) 0 f) ∙ first-fails ok (segmentsOf m) (omega (arith, w, d)))))
+
+pub record Accepted (m : List ℕ) (expected room : ℕ) (s : List ℕ) : Type 0 where
+  pub passed : Planned m expected room
+  pub tiling : tiled m ≡ true
+  pub whole : length s ≡ startOf m (segmentsOf m)
+  pub entries : (r : ℕ) → r < rowsOf m → Entered m r
+  pub inside : (r : ℕ) → r < rowsOf m → recordAt m r + recordLength m r + 4 ≤ length s
+  pub ids : (r t : ℕ) → r < t → t < rowsOf m → idAt m r < idAt m t
+  pub records : (r : ℕ) → r < rowsOf m → recordOk m s r ≡ true
+  pub sums : (n : ℕ) → n < segmentsOf m → segmentCrcOk m s n ≡ true
+
+pub library-accepted : (m : List ℕ) (expected room : ℕ) (s : List ℕ) → libraryRefusal m expected room s .number ≡ 0 → Accepted m expected room s
+unfolding libraryRefusal segmentsRefusal
+library-accepted m expected room s h =
+    by (eqb (manifestNumber m expected room) 0)
+    (λ e. let n = eqb-true (manifestNumber m expected room) 0 e in
+    let a = accepted m expected room n in
+    let ok = a .0 .rows in
+    let g : segmentsRefusal m s .number ≡ 0 = rw e at h in
+    let b = held-number (eqb (length s) (startOf m (segmentsOf m))) (inOrder m s) (refused 5 0) not-zero g in
+    let w = eqb-true (length s) (startOf m (segmentsOf m)) (b .0) in
+    let each : (n : ℕ) → n < segmentsOf m → ((i : ℕ) → i < length (inSegment m n) → recordOk m s (getD (inSegment m n) i 0) ≡ true) × (segmentCrcOk m s n ≡ true) =
+    λ n k. rows-pass m s n (inSegment m n) (order-pass m s n (b .1) k) in
+    record {
+      passed = a .0;
+      tiling = a .1;
+      whole = w;
+      entries = λ r k. entered m r ok k;
+      inside = λ r k. rw w (record-within m (lengths-of m ok) r (entry-keeps m r ok k));
+      ids = λ r t l k. ids-rise m r t ok l k;
+      records = λ r k. all-at (λ z. recordOk m s z ≡ true) (inSegment m (segmentAt m r)) 0 (each (segmentAt m r) (entered m r ok k .segment) .0) r (of-segment m r k);
+      sums = λ n k. each n k .1;
+    })
+    (λ e. let f : manifestNumber m expected room ≡ 0 = rw e at h in absurd (eqb-false (manifestNumber m expected room) 0 e f))
+
+-- and what is such is accepted
+none-refused : (m : List ℕ) (expected room : ℕ) (s : List ℕ) → Accepted m expected room s → (n : ℕ) → n < segmentsOf m → segmentRefusal m s n ≡ none
+unfolding rowsRefusal
+none-refused m expected room s a n k =
+    let rows = inSegment m n in
+    let each : (i : ℕ) → i < length rows → recordOk m s (getD rows i 0) ≡ true =
+    λ i h. a .records (getD rows i 0) (in-segment m (a .passed .rows) (bounds m (a .passed .head) .most) n (getD rows i 0) (mem-getD rows i 0 h)) in
+    rw (eq-eqb (badRecord m s rows) (length rows) (all-pass (λ i. recordOk m s (getD rows i 0)) (length rows) each), a .sums n k)
+
+pub accepted-library : (m : List ℕ) (expected room : ℕ) (s : List ℕ) → Accepted m expected room s → libraryRefusal m expected room s ≡ none
+unfolding libraryRefusal segmentsRefusal inOrder manifestNumber
+accepted-library m expected room s a =
+    let p = a .passed in
+    let n : manifestNumber m expected room ≡ 0 = rw (eq-eqb (planNumber m expected room) 0 (plans p), a .tiling) in
+    let each : (n : ℕ) → n < segmentsOf m → eqb (segmentRefusal m s n .number) 0 ≡ true =
+    λ n k. eq-eqb (segmentRefusal m s n .number) 0 (ap (λ (r : Refusal). r .number) (none-refused m expected room s a n k)) in
+    rw (eq-eqb (manifestNumber m expected room) 0 n, eq-eqb (length s) (startOf m (segmentsOf m)) (a .whole), eq-eqb (badSegment m s) (segmentsOf m) (all-pass (λ n. eqb (segmentRefusal m s n .number) 0) (segmentsOf m) each))
