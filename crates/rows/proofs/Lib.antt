@@ -1,0 +1,2 @@
+-- Laws of a library's rows.
+pub mod Written

@@ -1,0 +1,27 @@
+-- The encoder's own row of each record, over the levels and the midpoints (document 01, The arithmetic, Encoder; The report: "Written and
+-- built by one encoder: from the records lent").
+use mathlib.Core.List.{List, [], _++_}
+use Prim.Native.Nat.{ℕ, zero, suc, _+_}
+use lib.Ieee.{Float}
+use Rattle.config.specs.Vector.{floatsAt}
+use Rattle.quantization.specs.View.{View, rowBytes}
+use Rattle.quantization.specs.Encoder.{encode}
+use Rattle.format.specs.Order.{firstBad}
+use Rattle.format.specs.Fields.{dimensionsOf, rowsOf}
+use Rattle.segment.specs.Record.{recordAt, recordOk}
+
+-- a record's coordinates (Layouts: "A record is id, metadata length, f32 coordinates, UTF-8 metadata")
+abbrev pub vectorOf : List ℕ → List ℕ → ℕ → List Float
+vectorOf m s r = floatsAt (dimensionsOf m) s (recordAt m r + 12)
+
+abbrev pub rowOf : ℕ → List Float → List ℕ → List ℕ → ℕ → View
+rowOf levels mids m s r = encode levels mids (vectorOf m s r)
+
+-- the first n rows as they stand in a cache (Layouts, Cache: "identity, rows, CRC-32")
+unfoldable pub rowsBytes : ℕ → List Float → List ℕ → List ℕ → ℕ → List ℕ
+rowsBytes levels mids m s zero = []
+rowsBytes levels mids m s (suc n) = rowsBytes levels mids m s n ++ rowBytes (rowOf levels mids m s n)
+
+-- "5 for the lowest bad row", or the row count (What each place turns away, preparing and building)
+abbrev pub badRow : List ℕ → List ℕ → ℕ
+badRow m s = firstBad (recordOk m s) (rowsOf m)

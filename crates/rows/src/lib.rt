@@ -1,0 +1,71 @@
+// The rows of a library: the lowest bad record, and each record's row, written into its own part of a lent cache.
+ghost use mathlib.Core.Path.{_≡_};
+ghost use mathlib.Core.Bool.{true};
+ghost use Prim.Native.Nat.{_+_, _*_, _≤_, _<_};
+ghost use lib.ListN.{length};
+ghost use Rattle.le.specs.Le.{paste};
+ghost use Rattle.format.specs.Fields.{metricAt, rowsOf, dimensionsOf};
+ghost use Rattle.format.specs.Plan.{rowsOk};
+ghost use Rattle.format.specs.Layout.{Placed};
+ghost use Rattle.quantization.specs.View.{rowBytes};
+ghost use Rattle.quantization.specs.Encoder.{midpoints};
+ghost use Rattle.segment.specs.Record.{recordOk, Starts};
+ghost use Rattle.rows.specs.Rows.{rowOf, rowsBytes, badRow};
+use config::Metric;
+use format::Layout;
+
+// The lowest row whose record fails, or the row count.
+pub fn bad_row(m: &[u8], layout: Layout, metric: Metric, starts: &[u64; 1024], s: &[u8]) -> usize
+    requires { ⌜ Placed (now m) layout × (metric ≡ metricAt (now m)) × (rowsOk (now m) ≡ true) × Starts (now m) (now starts) ⌝ }
+    ensures { λ r. ⌜ r ≡ badRow (now (m .entry)) (now (s .entry)) ⌝ }
+{
+    let mut row = 0;
+    while row < layout.rows {
+        if !segment::record_holds(m, layout, metric, starts, s, row) {
+            return row;
+        }
+        row += 1;
+    }
+    row
+}
+
+// The row of a record that passes, into its own part of the cache; `t` are the midpoints.
+fn put_row(
+    m: &[u8],
+    layout: Layout,
+    starts: &[u64; 1024],
+    t: &[f64; 127],
+    s: &[u8],
+    part: &mut [u8],
+    row: usize,
+)
+    requires { ⌜ Placed (now m) layout × (rowsOk (now m) ≡ true) × Starts (now m) (now starts) × (now t ≡ midpoints) × (row < layout .rows) × (recordOk (now m) (now s) row ≡ true) × (length (now part) ≡ dimensionsOf (now m) + 16) ⌝ }
+    ensures { λ r. ⌜ now (part .exit) ≡ rowBytes (rowOf 127 midpoints (now (m .entry)) (now (s .entry)) row) ⌝ }
+{
+    let at = segment::record_at(m, layout, starts, row);
+    quantization::encode_row(t, s, at + 12, part);
+}
+
+// The rows of a library whose records all pass, one after the other, each of `size` bytes, from a place of the cache on.
+pub fn put_rows(
+    m: &[u8],
+    layout: Layout,
+    starts: &[u64; 1024],
+    t: &[f64; 127],
+    s: &[u8],
+    cache: &mut [u8],
+    at: usize,
+    size: usize,
+)
+    requires { ⌜ Placed (now m) layout × (rowsOk (now m) ≡ true) × Starts (now m) (now starts) × (now t ≡ midpoints) × (badRow (now m) (now s) ≡ rowsOf (now m)) × (size ≡ dimensionsOf (now m) + 16) × (at + rowsOf (now m) * size ≤ length (now cache)) ⌝ }
+    ensures { λ r. ⌜ now (cache .exit) ≡ paste (now (cache .entry)) at (rowsBytes 127 midpoints (now (m .entry)) (now (s .entry)) (rowsOf (now (m .entry)))) ⌝ }
+{
+    let mut from = at;
+    let mut row = 0;
+    while row < layout.rows {
+        let end = from + size;
+        put_row(m, layout, starts, t, s, &mut cache[from..end], row);
+        from = end;
+        row += 1;
+    }
+}
