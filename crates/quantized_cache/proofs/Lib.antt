@@ -1,0 +1,2 @@
+-- Laws of sizing.
+pub mod Sizes
