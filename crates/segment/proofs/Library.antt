@@ -26,7 +26,7 @@ use Rattle.segment.specs.Check.{badRecord, segmentCrcOk, rowsRefusal, se
 use Rattle.segment.proofs.Places.{record-within}
 
 -- a refusal with a number is none of the two
-held-number : (t : Bool) (a b : Refusal) → (b .number ≡ 0 → ⊥) → cond t a b .number ≡ 0 → (t ≡ true) × (a .number ≡ 0)
+pub held-number : (t : Bool) (a b : Refusal) → (b .number ≡ 0 → ⊥) → cond t a b .number ≡ 0 → (t ≡ true) × (a .number ≡ 0)
 held-number true a b n e = (refl, e)
 held-number false a b n e = absurd (n e)
 

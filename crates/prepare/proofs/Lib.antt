@@ -1,0 +1,2 @@
+-- Laws of preparing.
+pub mod Stored

@@ -1,0 +1,99 @@
+-- Head, rows and CRC-32 stored one after the other are the cache. Assumes nothing.
+use mathlib.Core.Path.{_≡_, ap, _∙_}
+use mathlib.Core.Bool.{cond}
+use mathlib.Core.List.{List, _++_}
+use Prim.Native.Nat.{ℕ, suc, _+_, _-_, _*_, _≤_}
+use native.Mathlib.Omega.{arith}
+use lib.Dec.{leb, eqb}
+use lib.ListN.{length, take, drop, length-append}
+use lib.Seq.{take-at}
+use borrow.Author.Tests.{leb-true, eqb-true, eq-eqb, ne-eqb}
+use Rattle.le.specs.Le.{bytes, paste}
+use Rattle.le.proofs.LeLaws.{length-bytes}
+use Rattle.le.proofs.Pastes.{paste-first, paste-next}
+use Rattle.crc32.specs.Crc.{crc32}
+use Rattle.config.specs.Refusal.{none, refused}
+use Rattle.quantization.specs.Encoder.{midpoints}
+use Rattle.format.specs.Fields.{rowsOf, dimensionsOf}
+use Rattle.geometry.specs.Cache.{identity, identityLength, cacheHead, cacheBytes}
+use Rattle.geometry.proofs.Parts.{length-identity, length-head}
+use Rattle.quantized_cache.specs.Size.{sizeOf, sizeNumber}
+use Rattle.geometry.specs.declared.Options.{Options}
+use Rattle.segment.proofs.Library.{held-number}
+use Rattle.rows.specs.Rows.{rowsBytes, badRow}
+use Rattle.rows.proofs.Written.{length-rows}
+use Rattle.prepare.specs.Prepare.{lateRefusal, prepareRefusal, cacheOf, cacheAfter, preparedBy}
+
+not-zero : {n : ℕ} → suc n ≡ 0 → ⊥
+not-zero e = absurd (omega arith)
+
+-- what is not refused after sizing
+pub late-passed : (m s : List ℕ) (size room : ℕ) → lateRefusal m s size room .number ≡ 0 → (size ≤ room) × (badRow m s ≡ rowsOf m)
+unfolding lateRefusal
+late-passed m s size room h =
+    let a = held-number (leb size room) (cond (eqb (badRow m s) (rowsOf m)) none (refused 5 (badRow m s))) (refused 11 0) not-zero h in
+    let b = held-number (eqb (badRow m s) (rowsOf m)) none (refused 5 (badRow m s)) not-zero (a .1) in
+    (leb-true size room (a .0), eqb-true (badRow m s) (rowsOf m) (b .0))
+
+module _ (m s platform root : List ℕ) where
+  abbrev head : List ℕ
+  head = cacheHead 1 (identity platform root m)
+
+  abbrev rows : List ℕ
+  rows = rowsBytes 127 midpoints m s (rowsOf m)
+
+  -- the place of the rows, and of the CRC-32
+  pub record Stores (at size room : ℕ) : Type 0 where
+    pub head-ends : length head ≡ at
+    pub rows-end : at + length rows ≡ size - 4
+    pub rows-fit : at + rowsOf m * (dimensionsOf m + 16) + 4 ≡ size
+    pub fits : size ≤ room
+    pub long : 20 ≤ size
+
+  pub stores : (at size room : ℕ) → at ≡ 16 + identityLength (length platform) (length root) (length m) → size ≡ sizeOf m platform root → 66 ≤ length m → size ≤ room
+      → Stores at size room
+  stores at size room e z l f =
+      let i = length-identity platform root m (omega (arith, l)) in
+      let h = length-head 1 (identity platform root m) in
+      let r = length-rows m s (rowsOf m) in
+      record {
+        head-ends = omega (arith, e, i, h);
+        rows-end = omega (arith, e, z, r);
+        rows-fit = omega (arith, e, z);
+        fits = f;
+        long = omega (arith, z);
+      }
+
+  pub stored : (d : List ℕ) (at size : ℕ) → Stores at size (length d)
+      → paste (paste (paste d 0 head) at rows) (size - 4) (bytes 4 (crc32 (take (size - 4) (paste (paste d 0 head) at rows))))
+      ≡ cacheOf m s platform root ++ drop size d
+  unfolding cacheOf cacheBytes
+  stored d at size p =
+      let x = head ++ rows in
+      let l : length x ≡ size - 4 = length-append head rows ∙ rw (p .head-ends) (p .rows-end) in
+      let two = paste-next d 0 head rows at (let h = p .head-ends in omega (arith, h)) (let f = p .fits in let r = p .rows-fit in omega (arith, f, r)) in
+      let front : take (size - 4) (paste d 0 x) ≡ x = rw (paste-first d x) (take-at x (drop (length x) d) (size - 4) l) in
+      let y = bytes 4 (crc32 x) in
+      let n : length (x ++ y) ≡ size = length-append x y ∙ rw (l, length-bytes 4 (crc32 x)) (let g = p .long in omega (arith, g)) in
+      rw (two, front) (paste-next d 0 x y (size - 4) (let q = l in omega (arith, q)) (let f = p .fits in omega (arith, f)) ∙ paste-first d (x ++ y) ∙ ap (λ k. (x ++ y) ++ drop k d) n)
+
+-- ---- a refusal of the manifest or of sizing, and none
+module _ (m : List ℕ) (expected scratch : ℕ) (s platform root : List ℕ) (o : Options) (room : ℕ) where
+  abbrev number : ℕ
+  number = sizeNumber m expected scratch platform root o
+
+  pub early : (number ≡ 0 → ⊥) → prepareRefusal m expected scratch s platform root o room ≡ refused number 0
+  unfolding prepareRefusal
+  early h = rw (ne-eqb number 0 h)
+
+  pub late : number ≡ 0 → prepareRefusal m expected scratch s platform root o room ≡ lateRefusal m s (sizeOf m platform root) room
+  unfolding prepareRefusal
+  late h = rw (eq-eqb number 0 h)
+
+pub refused-answer : (m : List ℕ) (size other n : ℕ) → (n ≡ 0 → ⊥) → preparedBy m size (refused n 0) ≡ preparedBy m other (refused n 0)
+unfolding preparedBy
+refused-answer m size other n h = rw (ne-eqb n 0 h)
+
+pub refused-cache : (m s platform root d : List ℕ) (n : ℕ) → (n ≡ 0 → ⊥) → d ≡ cacheAfter m s platform root (refused n 0) d
+unfolding cacheAfter
+refused-cache m s platform root d n h = rw (ne-eqb n 0 h)

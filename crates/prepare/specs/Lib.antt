@@ -1,0 +1,2 @@
+-- What preparing a cache refuses, stores and answers.
+pub mod Prepare

@@ -1,0 +1,161 @@
+// Preparing a cache: quantized_cache.rs's `prepare`, over lent slices. Every test goes before the first store.
+ghost use mathlib.Core.Path.{_≡_};
+ghost use mathlib.Core.Bool.{true};
+ghost use mathlib.Core.List.{_++_};
+ghost use Prim.Native.Nat.{_+_, _*_, _≤_};
+ghost use lib.ListN.{length, take, drop};
+ghost use Rattle.quantization.specs.Encoder.{midpoints};
+ghost use Rattle.format.specs.Fields.{rowsOf, dimensionsOf};
+ghost use Rattle.format.specs.Head.{headNumber};
+ghost use Rattle.format.specs.Plan.{rowsOk};
+ghost use Rattle.crc32.specs.Crc.{crc32};
+ghost use Rattle.le.specs.Le.{bytes, paste};
+ghost use Rattle.manifest.specs.Check.{scratchAfter};
+ghost use Rattle.geometry.specs.Cache.{rowLength, Lent};
+ghost use Rattle.quantized_cache.specs.Size.{sizeOf};
+ghost use Rattle.rows.specs.Rows.{rowsBytes, badRow};
+ghost use Rattle.prepare.specs.Prepare.{lateRefusal, prepareRefusal, cacheOf, cacheAfter, infoOf, preparedBy};
+use config::Refusal;
+use geometry::Options;
+
+// What was prepared: the Rust's `QuantizedCacheInfo`.
+pub struct Info {
+    pub generation: u64,
+    pub sequence: u64,
+    pub cache_bytes: usize,
+    pub code_bytes: usize,
+    pub parameter_bytes: usize,
+}
+
+pub struct Prepared {
+    pub refusal: Refusal,
+    pub info: Info,
+}
+
+// The refusals after sizing's: the cache's room, then the lowest bad record.
+fn late_refusal(m: &[u8], s: &[u8], size: usize, room: usize) -> Refusal
+    requires { ⌜ (headNumber (now m) ≡ 0) × (rowsOk (now m) ≡ true) ⌝ }
+    ensures { λ r. ⌜ r ≡ lateRefusal (now (m .entry)) (now (s .entry)) size room ⌝ }
+{
+    if room < size {
+        return Refusal {
+            number: 11,
+            place: 0,
+        };
+    }
+    let layout = format::read_layout(m);
+    let starts = segment::starts(m, layout);
+    let bad = rows::bad_row(m, layout, format::metric(m), &starts, s);
+    if bad < layout.rows {
+        return Refusal {
+            number: 5,
+            place: bad as u64,
+        };
+    }
+    Refusal {
+        number: 0,
+        place: 0,
+    }
+}
+
+// The cache's CRC-32, behind all else.
+fn seal(cache: &mut [u8], end: usize)
+    requires { ⌜ end + 4 ≤ length (now cache) ⌝ }
+    ensures { λ r. ⌜ now (cache .exit) ≡ paste (now (cache .entry)) end (bytes 4 (crc32 (take end (now (cache .entry))))) ⌝ }
+{
+    let crc = crc32::crc32(&cache[..end]);
+    le::put_u32(cache, end, crc);
+}
+
+fn store_rows(m: &[u8], s: &[u8], cache: &mut [u8], at: usize)
+    requires { ⌜ (headNumber (now m) ≡ 0) × (rowsOk (now m) ≡ true) × (badRow (now m) (now s) ≡ rowsOf (now m)) × (at + rowsOf (now m) * rowLength (dimensionsOf (now m)) ≤ length (now cache)) ⌝ }
+    ensures { λ r. ⌜ now (cache .exit) ≡ paste (now (cache .entry)) at (rowsBytes 127 midpoints (now (m .entry)) (now (s .entry)) (rowsOf (now (m .entry)))) ⌝ }
+{
+    let layout = format::read_layout(m);
+    let starts = segment::starts(m, layout);
+    let t = quantization::midpoints_table();
+    let row = geometry::row_length(layout.dimensions);
+    rows::put_rows(m, layout, &starts, &t, s, cache, at, row);
+}
+
+// Head, rows, CRC-32.
+fn store(m: &[u8], s: &[u8], platform: &[u8], root: &[u8], cache: &mut [u8], size: usize)
+    requires { ⌜ (headNumber (now m) ≡ 0) × (rowsOk (now m) ≡ true) × (badRow (now m) (now s) ≡ rowsOf (now m)) × (size ≡ sizeOf (now m) (now platform) (now root)) × Lent (now platform) (now root) (now m) size × (size ≤ length (now cache)) ⌝ }
+    ensures { λ r. ⌜ now (cache .exit) ≡ cacheOf (now (m .entry)) (now (s .entry)) (now (platform .entry)) (now (root .entry)) ++ drop size (now (cache .entry)) ⌝ }
+{
+    let at = 16 + geometry::identity_length(platform.len(), root.len(), m.len());
+    geometry::put_head(cache, platform, root, m);
+    store_rows(m, s, cache, at);
+    seal(cache, size - 4);
+}
+
+fn info_of(m: &[u8], size: usize) -> Info
+    requires { ⌜ headNumber (now m) ≡ 0 ⌝ }
+    ensures { λ r. ⌜ r ≡ infoOf (now (m .entry)) size ⌝ }
+{
+    let layout = format::read_layout(m);
+    Info {
+        generation: le::u64_at(m, 8),
+        sequence: le::u64_at(m, 16),
+        cache_bytes: size,
+        code_bytes: layout.rows * layout.dimensions,
+        parameter_bytes: layout.rows * 16,
+    }
+}
+
+fn answer(m: &[u8], size: usize, refusal: Refusal) -> Prepared
+    requires { ⌜ (refusal .number ≡ 0 → headNumber (now m) ≡ 0) ⌝ }
+    ensures { λ r. ⌜ r ≡ preparedBy (now (m .entry)) size refusal ⌝ }
+{
+    if refusal.number == 0 {
+        return Prepared {
+            refusal: refusal,
+            info: info_of(m, size),
+        };
+    }
+    Prepared {
+        refusal: refusal,
+        info: Info {
+            generation: 0,
+            sequence: 0,
+            cache_bytes: 0,
+            code_bytes: 0,
+            parameter_bytes: 0,
+        },
+    }
+}
+
+// After the manifest and sizing: 11 and 5, and then the stores.
+fn fill(m: &[u8], s: &[u8], platform: &[u8], root: &[u8], cache: &mut [u8], size: usize) -> Refusal
+    requires { ⌜ (headNumber (now m) ≡ 0) × (rowsOk (now m) ≡ true) × (size ≡ sizeOf (now m) (now platform) (now root)) × Lent (now platform) (now root) (now m) size ⌝ }
+    ensures { λ r. ⌜ (r ≡ lateRefusal (now (m .entry)) (now (s .entry)) size (length (now (cache .entry)))) × (now (cache .exit) ≡ cacheAfter (now (m .entry)) (now (s .entry)) (now (platform .entry)) (now (root .entry)) r (now (cache .entry))) ⌝ }
+{
+    let refusal = late_refusal(m, s, size, cache.len());
+    if refusal.number != 0 {
+        return refusal;
+    }
+    store(m, s, platform, root, cache, size);
+    refusal
+}
+
+pub fn prepare(
+    manifest: &[u8],
+    expected_crc: u32,
+    scratch: &mut [u64],
+    segments: &[u8],
+    platform: &[u8],
+    root: &[u8],
+    options: Options,
+    cache: &mut [u8],
+) -> Prepared
+    ensures { λ r. ⌜ (let refusal = prepareRefusal (now (manifest .entry)) «expected_crc» (length (now (scratch .entry))) (now (segments .entry)) (now (platform .entry)) (now (root .entry)) options (length (now (cache .entry))) in (r ≡ preparedBy (now (manifest .entry)) (sizeOf (now (manifest .entry)) (now (platform .entry)) (now (root .entry))) refusal) × (now (cache .exit) ≡ cacheAfter (now (manifest .entry)) (now (segments .entry)) (now (platform .entry)) (now (root .entry)) refusal (now (cache .entry)))) ⌝ }
+    ensures { λ r. ⌜ now (scratch .exit) ≡ scratchAfter (now (manifest .entry)) «expected_crc» (now (scratch .entry)) ⌝ }
+{
+    let sized = quantized_cache::size(manifest, expected_crc, scratch, platform, root, options);
+    let early = sized.refusal;
+    if early.number != 0 {
+        return answer(manifest, 0, early);
+    }
+    let refusal = fill(manifest, segments, platform, root, cache, sized.size);
+    answer(manifest, sized.size, refusal)
+}
