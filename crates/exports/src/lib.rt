@@ -15,6 +15,8 @@ ghost use Rattle.quantization.specs.View.{rowBytes};
 ghost use Rattle.quantization.specs.Encoder.{encode, midpoints};
 ghost use Rattle.math.specs.Distance.{Readable, inverseNorm, original};
 ghost use Rattle.math.specs.Four.{originalFour};
+ghost use Rattle.manifest.specs.Check.{scratchAfter};
+ghost use Rattle.segment.specs.Check.{libraryRefusal};
 use config::Metric;
 
 // ---- CRC-32 and the square root.
@@ -237,4 +239,25 @@ pub extern "C" fn pv_inner_product_four(
     ensures { λ r. ⌜ (let at : ℕ → List Float = λ p. floatsAt (length (now (q .entry))) (now (s .entry)) p in now (out .exit) ≡ originalFour M.InnerProduct (now (q .entry)) (at a) (at b) (at c) (at d)) ⌝ }
 {
     *out = math::original_four(Metric::InnerProduct, q, inverse, s, a, b, c, d);
+}
+
+// ---- The library check.
+
+// The refusal's number; its place goes into the room that the caller lends.
+#[no_mangle]
+pub extern "C" fn pv_segment_check(
+    manifest: &[u8],
+    expected_crc: u32,
+    scratch: &mut [u64],
+    segments: &[u8],
+    place: &mut u64,
+) -> u32
+    ensures { λ r. ⌜ r ≡ libraryRefusal (now (manifest .entry)) «expected_crc» (length (now (scratch .entry))) (now (segments .entry)) .number ⌝ }
+    ensures { λ r. ⌜ now (place .exit) ≡ libraryRefusal (now (manifest .entry)) «expected_crc» (length (now (scratch .entry))) (now (segments .entry)) .place ⌝ }
+    ensures { λ r. ⌜ now (scratch .exit) ≡ scratchAfter (now (manifest .entry)) «expected_crc» (now (scratch .entry)) ⌝ }
+{
+    let checked = segment::check(manifest, expected_crc, scratch, segments);
+    let refusal = checked.refusal;
+    *place = refusal.place;
+    refusal.number
 }
