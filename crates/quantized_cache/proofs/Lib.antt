@@ -1,2 +1,3 @@
--- Laws of sizing.
+-- Laws of sizing and of opening.
 pub mod Sizes
+pub mod Opens

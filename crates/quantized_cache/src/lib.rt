@@ -1,16 +1,36 @@
 // A cache of quantized rows: quantized_cache.rs's sizing and `CachedQuantizedSnapshot::open`, over lent slices.
 ghost use mathlib.Core.Path.{_≡_};
+ghost use Prim.Native.Nat.{_+_, _*_, _≤_};
 ghost use lib.ListN.{length};
+ghost use Rattle.quantization.specs.View.{rowAt, validRow};
+ghost use Rattle.format.specs.Fields.{dimensionsOf, rowsOf, metricAt};
 ghost use Rattle.format.specs.Head.{headNumber};
 ghost use Rattle.manifest.specs.Check.{scratchAfter};
+ghost use Rattle.geometry.specs.Cache.{identity as identityOf, rowLength};
+ghost use Rattle.geometry.specs.Open.{openNumber as headOpens};
 ghost use Rattle.quantized_cache.specs.Size.{sizingOf, sizeOf, sizeNumber, sized};
+ghost use Rattle.quantized_cache.specs.Open.{badRow, sealOk, contentRefusal, openNumber, openRefusal, openedBy, opened};
+use config::Metric;
 use config::Refusal;
+use format::Head;
 use geometry::Options;
 
 // A refusal, or the size of a library's cache.
 pub struct Sized {
     pub refusal: Refusal,
     pub size: usize,
+}
+
+// What opening hands to a search: the manifest's head and the cache's length.
+pub struct State {
+    pub head: Head,
+    pub cache: usize,
+}
+
+// A refusal, or the state of an opened cache.
+pub struct Opened {
+    pub refusal: Refusal,
+    pub state: State,
 }
 
 // ---- Sizing.
@@ -84,4 +104,160 @@ pub fn size(
         refusal: refusal,
         size: size_of(manifest, platform, root, options),
     }
+}
+
+// ---- Opening.
+
+// The row test, of the row of n codes at a place of a cache.
+fn row_holds(metric: Metric, cache: &[u8], at: usize, n: usize) -> bool
+    requires { ⌜ (at + 16 + n ≤ length (now cache)) × (n ≤ 4096) ⌝ }
+    ensures { λ r. ⌜ r ≡ validRow 127 metric (rowAt n (now (cache .entry)) at) ⌝ }
+{
+    let scale = float::f64_value(le::u64_at(cache, at));
+    let norm = le::i64_at(cache, at + 8);
+    let t = codes::row_check(cache, at + 16, n);
+    row::valid(metric, scale, norm, t.squares, t.whole)
+}
+
+// The lowest invalid row, or the row count.
+fn bad_row(metric: Metric, rows: usize, dimensions: usize, cache: &[u8]) -> usize
+    requires { ⌜ (rows ≤ 1000000) × (dimensions ≤ 4096) × (rows * rowLength dimensions + 4 ≤ length (now cache)) ⌝ }
+    ensures { λ r. ⌜ r ≡ badRow metric rows dimensions (now (cache .entry)) ⌝ }
+{
+    let length = geometry::row_length(dimensions);
+    let mut at = cache.len() - 4 - rows * length;
+    let mut row = 0;
+    while row < rows {
+        if !row_holds(metric, cache, at, dimensions) {
+            return row;
+        }
+        at += length;
+        row += 1;
+    }
+    row
+}
+
+fn seal_holds(cache: &[u8]) -> bool
+    requires { ⌜ 4 ≤ length (now cache) ⌝ }
+    ensures { λ r. ⌜ r ≡ sealOk (now (cache .entry)) ⌝ }
+{
+    let end = cache.len() - 4;
+    crc32::crc32(&cache[..end]) == le::u32_at(cache, end)
+}
+
+// Opening's 14, then 15.
+fn content_refusal(metric: Metric, rows: usize, dimensions: usize, cache: &[u8]) -> Refusal
+    requires { ⌜ (rows ≤ 1000000) × (dimensions ≤ 4096) × (rows * rowLength dimensions + 4 ≤ length (now cache)) ⌝ }
+    ensures { λ r. ⌜ r ≡ contentRefusal metric rows dimensions (now (cache .entry)) ⌝ }
+{
+    let bad = bad_row(metric, rows, dimensions, cache);
+    if bad < rows {
+        return Refusal {
+            number: 14,
+            place: bad as u64,
+        };
+    }
+    if seal_holds(cache) {
+        return Refusal {
+            number: 0,
+            place: 0,
+        };
+    }
+    Refusal {
+        number: 15,
+        place: 0,
+    }
+}
+
+// Opening's 12 and 13, for a library that sizing lets pass.
+fn head_number(m: &[u8], cache: &[u8], platform: &[u8], root: &[u8], options: Options) -> u32
+    requires { ⌜ (headNumber (now m) ≡ 0) × (sizingOf (now m) (now platform) (now root) options ≡ 0) ⌝ }
+    ensures { λ r. ⌜ r ≡ headOpens 1 (sizeOf (now (m .entry)) (now (platform .entry)) (now (root .entry))) (identityOf (now (platform .entry)) (now (root .entry)) (now (m .entry))) (now (cache .entry)) ⌝ }
+{
+    let size = size_of(m, platform, root, options);
+    geometry::open_number(cache, size, platform, root, m)
+}
+
+// All that opening tests before the rows: the number of the first test that fails, or 0.
+fn open_number(
+    m: &[u8],
+    expected: u32,
+    scratch: &mut [u64],
+    cache: &[u8],
+    platform: &[u8],
+    root: &[u8],
+    options: Options,
+) -> u32
+    ensures { λ r. ⌜ (r ≡ openNumber (now (m .entry)) expected (length (now (scratch .entry))) (now (cache .entry)) (now (platform .entry)) (now (root .entry)) options) × (now (scratch .exit) ≡ scratchAfter (now (m .entry)) expected (now (scratch .entry))) ⌝ }
+{
+    let number = accept(m, expected, scratch, platform, root, options);
+    if number != 0 {
+        return number;
+    }
+    head_number(m, cache, platform, root, options)
+}
+
+// The rows and the CRC-32 of a cache whose head is the library's.
+fn rows_refusal(m: &[u8], cache: &[u8]) -> Refusal
+    requires { ⌜ (headNumber (now m) ≡ 0) × (rowsOf (now m) * rowLength (dimensionsOf (now m)) + 4 ≤ length (now cache)) ⌝ }
+    ensures { λ r. ⌜ r ≡ contentRefusal (metricAt (now (m .entry))) (rowsOf (now (m .entry))) (dimensionsOf (now (m .entry))) (now (cache .entry)) ⌝ }
+{
+    let layout = format::read_layout(m);
+    content_refusal(format::metric(m), layout.rows, layout.dimensions, cache)
+}
+
+// The answer to a refusal, or to none.
+fn answer(m: &[u8], cache: &[u8], refusal: Refusal) -> Opened
+    requires { ⌜ (refusal .number ≡ 0 → headNumber (now m) ≡ 0) ⌝ }
+    ensures { λ r. ⌜ r ≡ openedBy (now (m .entry)) (now (cache .entry)) refusal ⌝ }
+{
+    if refusal.number == 0 {
+        let state = State {
+            head: format::read_head(m),
+            cache: cache.len(),
+        };
+        return Opened {
+            refusal: refusal,
+            state: state,
+        };
+    }
+    let state = State {
+        head: format::zero_head(),
+        cache: 0,
+    };
+    Opened {
+        refusal: refusal,
+        state: state,
+    }
+}
+
+pub fn open(
+    manifest: &[u8],
+    expected_crc: u32,
+    scratch: &mut [u64],
+    cache: &[u8],
+    platform: &[u8],
+    root: &[u8],
+    options: Options,
+) -> Opened
+    ensures { λ r. ⌜ (r ≡ opened (now (manifest .entry)) «expected_crc» (length (now (scratch .entry))) (now (cache .entry)) (now (platform .entry)) (now (root .entry)) options) × (now (scratch .exit) ≡ scratchAfter (now (manifest .entry)) «expected_crc» (now (scratch .entry))) ⌝ }
+{
+    let number = open_number(
+        manifest,
+        expected_crc,
+        scratch,
+        cache,
+        platform,
+        root,
+        options,
+    );
+    if number != 0 {
+        let refusal = Refusal {
+            number: number,
+            place: 0,
+        };
+        return answer(manifest, cache, refusal);
+    }
+    let refusal = rows_refusal(manifest, cache);
+    answer(manifest, cache, refusal)
 }

@@ -70,7 +70,7 @@ pub fn approximate_distance(metric: Metric, row: Row, query: Row, root: f64, dot
 }
 
 // The row test, from what was summed of the codes.
-fn valid(metric: Metric, scale: f64, norm: i64, squares: u32, whole: bool) -> bool
+pub fn valid(metric: Metric, scale: f64, norm: i64, squares: u32, whole: bool) -> bool
     ensures { λ r. ⌜ r ≡ rowTest metric scale norm squares whole ⌝ }
 {
     let top: f64 = 1.0 / 0.0;

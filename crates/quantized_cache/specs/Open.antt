@@ -1,0 +1,67 @@
+-- Opening a cache (document 01, What each place turns away, opening: "12: length, magic or version wrong; 13: identity differs; 14: row
+-- invalid; 15: cache CRC-32 wrong"; "Opening: 10, 7, 8, 9, 12, 13, 14, 15", after the manifest is tested anew; places: "the row number for
+-- 14", here "otherwise 0").
+use mathlib.Core.Bool.{Bool, cond}
+use mathlib.Core.List.{List}
+use Prim.Native.Nat.{ℕ, _-_, _*_}
+use lib.Dec.{eqb}
+use lib.ListN.{length, take}
+use Rattle.le.specs.Le.{leAt}
+use Rattle.crc32.specs.Crc.{crc32}
+use Rattle.config.specs.Refusal.{none, refused}
+use Rattle.config.specs.declared.Metric.{Metric}
+use Rattle.config.specs.declared.Refusal.{Refusal}
+use Rattle.quantization.specs.View.{rowAt, validRow}
+use Rattle.format.specs.Order.{orElse, firstBad}
+use Rattle.format.specs.Fields.{dimensionsOf, rowsOf, metricAt}
+use Rattle.format.specs.Head.{headAt, zeroHead}
+use Rattle.geometry.specs.Cache.{identity, rowLength}
+use Rattle.geometry.specs.Open.{openNumber as headNumber}
+use Rattle.geometry.specs.declared.Options.{Options}
+use Rattle.quantized_cache.specs.Size.{sizeOf, sizeNumber}
+use Rattle.quantized_cache.specs.declared.Opened.{Opened}
+use Rattle.quantized_cache.specs.declared.State.{State}
+
+-- readings R2: "A cached row n starts at cache length - 4 - (rows - n) × (dimensions + 16)"
+abbrev pub rowStart : ℕ → ℕ → ℕ → ℕ → ℕ
+rowStart size rows dimensions n = size - 4 - (rows - n) * rowLength dimensions
+
+-- 14: document 01, The arithmetic, Row valid
+unfoldable pub cachedOk : Metric → ℕ → ℕ → List ℕ → ℕ → Bool
+cachedOk metric rows dimensions cache n = validRow 127 metric (rowAt dimensions cache (rowStart (length cache) rows dimensions n))
+
+-- the lowest invalid row, or the row count
+abbrev pub badRow : Metric → ℕ → ℕ → List ℕ → ℕ
+badRow metric rows dimensions cache = firstBad (cachedOk metric rows dimensions cache) rows
+
+-- 15: the CRC-32 of all but the last 4 bytes, which hold it
+unfoldable pub sealOk : List ℕ → Bool
+sealOk cache = eqb (crc32 (take (length cache - 4) cache)) (leAt 4 cache (length cache - 4))
+
+-- the rows, then the CRC-32
+unfoldable pub contentRefusal : Metric → ℕ → ℕ → List ℕ → Refusal
+contentRefusal metric rows dimensions cache =
+    cond (eqb (badRow metric rows dimensions cache) rows) (cond (sealOk cache) none (refused 15 0)) (refused 14 (badRow metric rows dimensions cache))
+
+-- the number of the first test before the rows that fails, or 0
+unfoldable pub openNumber : List ℕ → ℕ → ℕ → List ℕ → List ℕ → List ℕ → Options → ℕ
+openNumber m expected room cache platform root o =
+    orElse (sizeNumber m expected room platform root o) (headNumber 1 (sizeOf m platform root) (identity platform root m) cache)
+
+unfoldable pub openRefusal : List ℕ → ℕ → ℕ → List ℕ → List ℕ → List ℕ → Options → Refusal
+openRefusal m expected room cache platform root o =
+    cond (eqb (openNumber m expected room cache platform root o) 0) (contentRefusal (metricAt m) (rowsOf m) (dimensionsOf m) cache)
+    (refused (openNumber m expected room cache platform root o) 0)
+
+-- the state is the head and the cache's length (readings R2); "the state returned by a refused check .. is all zero" (R23)
+abbrev pub stateOf : List ℕ → List ℕ → State
+stateOf m cache = record { head = headAt m; cache = length cache }
+
+abbrev pub zeroState : State
+zeroState = record { head = zeroHead; cache = 0 }
+
+unfoldable pub openedBy : List ℕ → List ℕ → Refusal → Opened
+openedBy m cache refusal = record { refusal = refusal; state = cond (eqb (refusal .number) 0) (stateOf m cache) zeroState }
+
+abbrev pub opened : List ℕ → ℕ → ℕ → List ℕ → List ℕ → List ℕ → Options → Opened
+opened m expected room cache platform root o = openedBy m cache (openRefusal m expected room cache platform root o)
