@@ -1,0 +1,3 @@
+-- Laws of resident building.
+pub mod Rows
+pub mod Answers

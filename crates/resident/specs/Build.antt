@@ -1,0 +1,101 @@
+-- Resident building (document 01, What each place turns away: "Preparing, building and opening first test the manifest anew", "Resident
+-- building: 8, 11, 5"; "Answer slices, resident slices and the cache are untouched" by a refusal; places: "the row number for .. 5 at a
+-- record .. otherwise 0").
+use mathlib.Core.Bool.{Bool, cond, _&&_}
+use mathlib.Core.List.{List, [], _∷_, _++_}
+use Prim.Native.Nat.{ℕ, zero, suc, _+_, _*_}
+use lib.Dec.{leb, eqb}
+use lib.IntN.{ℤ}
+use lib.ListN.{drop}
+use lib.Ieee.{Float}
+use Rattle.config.specs.Refusal.{none, refused}
+use Rattle.config.specs.Vector.{floatsAt}
+use Rattle.config.specs.declared.Refusal.{Refusal}
+use Rattle.format.specs.Order.{unless, firstBad}
+use Rattle.format.specs.Fields.{dimensionsOf, rowsOf}
+use Rattle.format.specs.Head.{headAt, zeroHead}
+use Rattle.format.specs.declared.Head.{Head}
+use Rattle.geometry.specs.Sizing.{codesOk}
+use Rattle.manifest.specs.Check.{manifestNumber}
+use Rattle.segment.specs.Record.{recordAt, recordOk}
+use Rattle.quantization.specs.View.{View}
+use Rattle.quantization.specs.Encoder.{encode, midpoints}
+use Rattle.resident.specs.declared.State.{State}
+use Rattle.resident.specs.declared.Built.{Built}
+
+-- "11 is only for .. resident codes under rows × dimensions, or scales, norms .. under rows", of the lengths lent
+abbrev pub roomOk : ℕ → ℕ → ℕ → ℕ → ℕ → Bool
+roomOk rows dimensions codes scales norms = leb (rows * dimensions) codes && leb rows scales && leb rows norms
+
+-- "8: rows × dimensions over 536,870,912", then 11
+unfoldable pub roomNumber : ℕ → ℕ → ℕ → ℕ → ℕ → ℕ
+roomNumber rows dimensions codes scales norms =
+    unless (codesOk rows dimensions) 8
+    (unless (roomOk rows dimensions codes scales norms) 11 0)
+
+-- the lowest row whose record fails, or the row count
+abbrev pub badRow : List ℕ → List ℕ → ℕ
+badRow m s = firstBad (recordOk m s) (rowsOf m)
+
+-- "5 for the lowest bad row"
+unfoldable pub recordsRefusal : List ℕ → List ℕ → Refusal
+recordsRefusal m s = cond (eqb (badRow m s) (rowsOf m)) none (refused 5 (badRow m s))
+
+-- 8, 11, 5
+unfoldable pub plannedRefusal : List ℕ → List ℕ → ℕ → ℕ → ℕ → Refusal
+plannedRefusal m s codes scales norms =
+    let number = roomNumber (rowsOf m) (dimensionsOf m) codes scales norms in
+    cond (eqb number 0) (recordsRefusal m s) (refused number 0)
+
+-- `room` is the length of the scratch
+unfoldable pub buildRefusal : List ℕ → ℕ → ℕ → List ℕ → ℕ → ℕ → ℕ → Refusal
+buildRefusal m expected room s codes scales norms =
+    let number = manifestNumber m expected room in
+    cond (eqb number 0) (plannedRefusal m s codes scales norms) (refused number 0)
+
+-- readings R2: the accepted head and the lengths as lent; R23: "the state returned by a refused .. building is all zero"
+abbrev pub zeroState : State
+zeroState = record { head = zeroHead; codes = 0; scales = 0; norms = 0 }
+
+unfoldable pub answered : Head → Refusal → ℕ → ℕ → ℕ → Built
+answered head refusal codes scales norms =
+    record {
+      refusal = refusal;
+      state = cond (eqb (refusal .number) 0) (record { head = head; codes = codes; scales = scales; norms = norms }) zeroState;
+    }
+
+abbrev pub builtBy : List ℕ → Refusal → ℕ → ℕ → ℕ → Built
+builtBy m refusal codes scales norms = answered (headAt m) refusal codes scales norms
+
+-- the encoder's row of the record of row r (document 01, The arithmetic, Encoder)
+unfoldable pub residentRow : List ℕ → List ℕ → ℕ → View
+residentRow m s r = encode 127 midpoints (floatsAt (dimensionsOf m) s (recordAt m r + 12))
+
+-- f 0, f 1 .. one after the other, n of them
+unfoldable pub joined : {A : Type 0} → (ℕ → List A) → ℕ → List A
+joined f zero = []
+joined f (suc n) = joined f n ++ f n
+
+-- the codes, scales and norms of the first n rows, and what stood past them (readings R2: "Elements past the rows are neither written nor
+-- tested")
+abbrev pub codesUpto : List ℕ → List ℕ → ℕ → List ℤ → List ℤ
+codesUpto m s n d = joined (λ r. residentRow m s r .codes) n ++ drop (n * dimensionsOf m) d
+
+abbrev pub scalesUpto : List ℕ → List ℕ → ℕ → List Float → List Float
+scalesUpto m s n d = joined (λ r. residentRow m s r .scale ∷ []) n ++ drop n d
+
+abbrev pub normsUpto : List ℕ → List ℕ → ℕ → List ℤ → List ℤ
+normsUpto m s n d = joined (λ r. residentRow m s r .norm ∷ []) n ++ drop n d
+
+-- what building leaves of a lent slice: all rows where nothing is refused, else what was lent
+abbrev pub unlessRefused : {A : Type 0} → Refusal → List A → List A → List A
+unlessRefused refusal filled lent = cond (eqb (refusal .number) 0) filled lent
+
+abbrev pub codesAfter : List ℕ → List ℕ → Refusal → List ℤ → List ℤ
+codesAfter m s refusal d = unlessRefused refusal (codesUpto m s (rowsOf m) d) d
+
+abbrev pub scalesAfter : List ℕ → List ℕ → Refusal → List Float → List Float
+scalesAfter m s refusal d = unlessRefused refusal (scalesUpto m s (rowsOf m) d) d
+
+abbrev pub normsAfter : List ℕ → List ℕ → Refusal → List ℤ → List ℤ
+normsAfter m s refusal d = unlessRefused refusal (normsUpto m s (rowsOf m) d) d

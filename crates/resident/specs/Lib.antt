@@ -1,0 +1,2 @@
+-- What building refuses, and what it leaves.
+pub mod Build

@@ -1,0 +1,191 @@
+// Building a resident index: quantization.rs's `QuantizedSnapshot::build`, into lent slices.
+ghost use mathlib.Core.Path.{_≡_};
+ghost use mathlib.Core.Bool.{true};
+ghost use Prim.Native.Nat.{_*_, _≤_};
+ghost use lib.ListN.{length};
+ghost use Rattle.format.specs.Fields.{dimensionsOf, rowsOf, metricAt};
+ghost use Rattle.format.specs.Head.{headNumber};
+ghost use Rattle.format.specs.Plan.{rowsOk};
+ghost use Rattle.format.specs.Layout.{Placed};
+ghost use Rattle.manifest.specs.Check.{scratchAfter};
+ghost use Rattle.segment.specs.Record.{Starts};
+ghost use Rattle.quantization.specs.Encoder.{midpoints};
+ghost use Rattle.resident.specs.Build.{roomNumber, badRow, recordsRefusal, plannedRefusal, buildRefusal, answered, builtBy, codesUpto, scalesUpto, normsUpto, codesAfter, scalesAfter, normsAfter};
+use config::Metric;
+use config::Refusal;
+use format::Head;
+use format::Layout;
+
+// What was accepted, and the lengths of the slices as lent.
+pub struct State {
+    pub head: Head,
+    pub codes: usize,
+    pub scales: usize,
+    pub norms: usize,
+}
+
+// A refusal, or what a search compares.
+pub struct Built {
+    pub refusal: Refusal,
+    pub state: State,
+}
+
+// ---- The tests.
+
+// The number of the first test of the sizes that fails, or 0.
+fn room_number(rows: usize, dimensions: usize, codes: usize, scales: usize, norms: usize) -> u32
+    requires { ⌜ (rows ≤ 1000000) × (dimensions ≤ 4096) ⌝ }
+    ensures { λ r. ⌜ r ≡ roomNumber rows dimensions codes scales norms ⌝ }
+{
+    let wanted = rows * dimensions;
+    if config::MAX_CODE_BYTES < wanted {
+        return 8;
+    }
+    if (wanted <= codes) & (rows <= scales) & (rows <= norms) {
+        return 0;
+    }
+    11
+}
+
+// The lowest row whose record fails, or the row count.
+fn bad_row(m: &[u8], layout: Layout, metric: Metric, starts: &[u64; 1024], s: &[u8]) -> usize
+    requires { ⌜ Placed (now m) layout × (metric ≡ metricAt (now m)) × (rowsOk (now m) ≡ true) × Starts (now m) (now starts) ⌝ }
+    ensures { λ r. ⌜ r ≡ badRow (now (m .entry)) (now (s .entry)) ⌝ }
+{
+    let mut row = 0;
+    while row < layout.rows {
+        if !segment::record_holds(m, layout, metric, starts, s, row) {
+            return row;
+        }
+        row += 1;
+    }
+    row
+}
+
+fn records_refusal(m: &[u8], layout: Layout, starts: &[u64; 1024], s: &[u8]) -> Refusal
+    requires { ⌜ (headNumber (now m) ≡ 0) × Placed (now m) layout × (rowsOk (now m) ≡ true) × Starts (now m) (now starts) ⌝ }
+    ensures { λ r. ⌜ r ≡ recordsRefusal (now (m .entry)) (now (s .entry)) ⌝ }
+{
+    let bad = bad_row(m, layout, format::metric(m), starts, s);
+    if bad != layout.rows {
+        return Refusal {
+            number: 5,
+            place: bad as u64,
+        };
+    }
+    Refusal {
+        number: 0,
+        place: 0,
+    }
+}
+
+// Of an accepted manifest and the lengths of the slices.
+fn plan(m: &[u8], s: &[u8], codes: usize, scales: usize, norms: usize) -> Refusal
+    requires { ⌜ (headNumber (now m) ≡ 0) × (rowsOk (now m) ≡ true) ⌝ }
+    ensures { λ r. ⌜ r ≡ plannedRefusal (now (m .entry)) (now (s .entry)) codes scales norms ⌝ }
+{
+    let layout = format::read_layout(m);
+    let number = room_number(layout.rows, layout.dimensions, codes, scales, norms);
+    if number != 0 {
+        return Refusal {
+            number: number,
+            place: 0,
+        };
+    }
+    let starts = segment::starts(m, layout);
+    records_refusal(m, layout, &starts, s)
+}
+
+// ---- The rows.
+
+fn fill(
+    m: &[u8],
+    layout: Layout,
+    starts: &[u64; 1024],
+    t: &[f64; 127],
+    s: &[u8],
+    codes: &mut [i8],
+    scales: &mut [f64],
+    norms: &mut [i64],
+)
+    requires { ⌜ Placed (now m) layout × (rowsOk (now m) ≡ true) × Starts (now m) (now starts) × (now t ≡ midpoints) × (badRow (now m) (now s) ≡ rowsOf (now m)) ⌝ }
+    requires { ⌜ (rowsOf (now m) * dimensionsOf (now m) ≤ length (now codes)) × (rowsOf (now m) ≤ length (now scales)) × (rowsOf (now m) ≤ length (now norms)) ⌝ }
+    ensures { λ r. ⌜ (now (codes .exit) ≡ codesUpto (now (m .entry)) (now (s .entry)) (rowsOf (now (m .entry))) (now (codes .entry))) × (now (scales .exit) ≡ scalesUpto (now (m .entry)) (now (s .entry)) (rowsOf (now (m .entry))) (now (scales .entry))) × (now (norms .exit) ≡ normsUpto (now (m .entry)) (now (s .entry)) (rowsOf (now (m .entry))) (now (norms .entry))) ⌝ }
+{
+    let mut row = 0;
+    while row < layout.rows {
+        let from = segment::record_at(m, layout, starts, row) + 12;
+        let at = row * layout.dimensions;
+        let end = at + layout.dimensions;
+        let encoded = quantization::encode_resident(t, s, from, &mut codes[at..end]);
+        let scale = encoded.scale;
+        let norm = encoded.norm;
+        scales[row] = scale;
+        norms[row] = norm;
+        row += 1;
+    }
+}
+
+// All rows, of an accepted manifest and good records.
+fn store(m: &[u8], s: &[u8], codes: &mut [i8], scales: &mut [f64], norms: &mut [i64])
+    requires { ⌜ (headNumber (now m) ≡ 0) × (rowsOk (now m) ≡ true) × (badRow (now m) (now s) ≡ rowsOf (now m)) ⌝ }
+    requires { ⌜ (rowsOf (now m) * dimensionsOf (now m) ≤ length (now codes)) × (rowsOf (now m) ≤ length (now scales)) × (rowsOf (now m) ≤ length (now norms)) ⌝ }
+    ensures { λ r. ⌜ (now (codes .exit) ≡ codesUpto (now (m .entry)) (now (s .entry)) (rowsOf (now (m .entry))) (now (codes .entry))) × (now (scales .exit) ≡ scalesUpto (now (m .entry)) (now (s .entry)) (rowsOf (now (m .entry))) (now (scales .entry))) × (now (norms .exit) ≡ normsUpto (now (m .entry)) (now (s .entry)) (rowsOf (now (m .entry))) (now (norms .entry))) ⌝ }
+{
+    let layout = format::read_layout(m);
+    let starts = segment::starts(m, layout);
+    let t = quantization::midpoints_table();
+    fill(m, layout, &starts, &t, s, codes, scales, norms);
+}
+
+// ---- Building.
+
+fn answer(head: Head, refusal: Refusal, codes: usize, scales: usize, norms: usize) -> Built
+    ensures { λ r. ⌜ r ≡ answered head refusal codes scales norms ⌝ }
+{
+    if refusal.number == 0 {
+        return Built {
+            refusal: refusal,
+            state: State {
+                head: head,
+                codes: codes,
+                scales: scales,
+                norms: norms,
+            },
+        };
+    }
+    Built {
+        refusal: refusal,
+        state: State {
+            head: format::zero_head(),
+            codes: 0,
+            scales: 0,
+            norms: 0,
+        },
+    }
+}
+
+pub fn build(
+    manifest: &[u8],
+    expected_crc: u32,
+    scratch: &mut [u64],
+    segments: &[u8],
+    codes: &mut [i8],
+    scales: &mut [f64],
+    norms: &mut [i64],
+) -> Built
+    ensures { λ r. ⌜ (let refusal = buildRefusal (now (manifest .entry)) «expected_crc» (length (now (scratch .entry))) (now (segments .entry)) (length (now (codes .entry))) (length (now (scales .entry))) (length (now (norms .entry))) in (r ≡ builtBy (now (manifest .entry)) refusal (length (now (codes .entry))) (length (now (scales .entry))) (length (now (norms .entry)))) × (now (scratch .exit) ≡ scratchAfter (now (manifest .entry)) «expected_crc» (now (scratch .entry))) × (now (codes .exit) ≡ codesAfter (now (manifest .entry)) (now (segments .entry)) refusal (now (codes .entry))) × (now (scales .exit) ≡ scalesAfter (now (manifest .entry)) (now (segments .entry)) refusal (now (scales .entry))) × (now (norms .exit) ≡ normsAfter (now (manifest .entry)) (now (segments .entry)) refusal (now (norms .entry)))) ⌝ }
+{
+    let checked = manifest::check(manifest, expected_crc, scratch);
+    let first = checked.refusal;
+    let head = checked.head;
+    if first.number != 0 {
+        return answer(head, first, codes.len(), scales.len(), norms.len());
+    }
+    let refusal = plan(manifest, segments, codes.len(), scales.len(), norms.len());
+    if refusal.number == 0 {
+        store(manifest, segments, codes, scales, norms);
+        return answer(head, refusal, codes.len(), scales.len(), norms.len());
+    }
+    answer(head, refusal, codes.len(), scales.len(), norms.len())
+}
