@@ -13,7 +13,8 @@ use Rattle.format.specs.declared.Head.{Head}
 use Rattle.format.proofs.Heads.{both, not-zero}
 use Rattle.geometry.specs.Sizing.{codesOk}
 use Rattle.manifest.specs.Check.{manifestNumber, checkedBy}
-use Rattle.resident.specs.Build.{roomOk, roomNumber, badRow, recordsRefusal, plannedRefusal, buildRefusal, answered, unlessRefused}
+use Rattle.resident.specs.Build.{roomOk, roomNumber, recordsRefusal, plannedRefusal, buildRefusal, answered, unlessRefused}
+use Rattle.rows.specs.Rows.{badRow}
 
 -- ---- what the manifest's check answers
 pub checked-refusal : (m : List ℕ) (f : Refusal) → checkedBy m f .refusal ≡ f

@@ -3,23 +3,22 @@
 -- record .. otherwise 0").
 use mathlib.Core.Bool.{Bool, cond, _&&_}
 use mathlib.Core.List.{List, [], _∷_, _++_}
-use Prim.Native.Nat.{ℕ, zero, suc, _+_, _*_}
+use Prim.Native.Nat.{ℕ, zero, suc, _*_}
 use lib.Dec.{leb, eqb}
 use lib.IntN.{ℤ}
 use lib.ListN.{drop}
 use lib.Ieee.{Float}
 use Rattle.config.specs.Refusal.{none, refused}
-use Rattle.config.specs.Vector.{floatsAt}
 use Rattle.config.specs.declared.Refusal.{Refusal}
-use Rattle.format.specs.Order.{unless, firstBad}
+use Rattle.format.specs.Order.{unless}
 use Rattle.format.specs.Fields.{dimensionsOf, rowsOf}
 use Rattle.format.specs.Head.{headAt, zeroHead}
 use Rattle.format.specs.declared.Head.{Head}
 use Rattle.geometry.specs.Sizing.{codesOk}
 use Rattle.manifest.specs.Check.{manifestNumber}
-use Rattle.segment.specs.Record.{recordAt, recordOk}
 use Rattle.quantization.specs.View.{View}
-use Rattle.quantization.specs.Encoder.{encode, midpoints}
+use Rattle.quantization.specs.Encoder.{midpoints}
+use Rattle.rows.specs.Rows.{rowOf, badRow}
 use Rattle.resident.specs.declared.State.{State}
 use Rattle.resident.specs.declared.Built.{Built}
 
@@ -32,10 +31,6 @@ unfoldable pub roomNumber : ℕ → ℕ → ℕ → ℕ → ℕ → ℕ
 roomNumber rows dimensions codes scales norms =
     unless (codesOk rows dimensions) 8
     (unless (roomOk rows dimensions codes scales norms) 11 0)
-
--- the lowest row whose record fails, or the row count
-abbrev pub badRow : List ℕ → List ℕ → ℕ
-badRow m s = firstBad (recordOk m s) (rowsOf m)
 
 -- "5 for the lowest bad row"
 unfoldable pub recordsRefusal : List ℕ → List ℕ → Refusal
@@ -69,7 +64,7 @@ builtBy m refusal codes scales norms = answered (headAt m) refusal codes scales 
 
 -- the encoder's row of the record of row r (document 01, The arithmetic, Encoder)
 unfoldable pub residentRow : List ℕ → List ℕ → ℕ → View
-residentRow m s r = encode 127 midpoints (floatsAt (dimensionsOf m) s (recordAt m r + 12))
+residentRow m s r = rowOf 127 midpoints m s r
 
 -- f 0, f 1 .. one after the other, n of them
 unfoldable pub joined : {A : Type 0} → (ℕ → List A) → ℕ → List A

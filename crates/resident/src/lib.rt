@@ -3,15 +3,15 @@ ghost use mathlib.Core.Path.{_≡_};
 ghost use mathlib.Core.Bool.{true};
 ghost use Prim.Native.Nat.{_*_, _≤_};
 ghost use lib.ListN.{length};
-ghost use Rattle.format.specs.Fields.{dimensionsOf, rowsOf, metricAt};
+ghost use Rattle.format.specs.Fields.{dimensionsOf, rowsOf};
 ghost use Rattle.format.specs.Head.{headNumber};
 ghost use Rattle.format.specs.Plan.{rowsOk};
 ghost use Rattle.format.specs.Layout.{Placed};
 ghost use Rattle.manifest.specs.Check.{scratchAfter};
 ghost use Rattle.segment.specs.Record.{Starts};
 ghost use Rattle.quantization.specs.Encoder.{midpoints};
-ghost use Rattle.resident.specs.Build.{roomNumber, badRow, recordsRefusal, plannedRefusal, buildRefusal, answered, builtBy, codesUpto, scalesUpto, normsUpto, codesAfter, scalesAfter, normsAfter};
-use config::Metric;
+ghost use Rattle.rows.specs.Rows.{badRow};
+ghost use Rattle.resident.specs.Build.{roomNumber, recordsRefusal, plannedRefusal, buildRefusal, answered, builtBy, codesUpto, scalesUpto, normsUpto, codesAfter, scalesAfter, normsAfter};
 use config::Refusal;
 use format::Head;
 use format::Layout;
@@ -47,26 +47,11 @@ fn room_number(rows: usize, dimensions: usize, codes: usize, scales: usize, norm
     11
 }
 
-// The lowest row whose record fails, or the row count.
-fn bad_row(m: &[u8], layout: Layout, metric: Metric, starts: &[u64; 1024], s: &[u8]) -> usize
-    requires { ⌜ Placed (now m) layout × (metric ≡ metricAt (now m)) × (rowsOk (now m) ≡ true) × Starts (now m) (now starts) ⌝ }
-    ensures { λ r. ⌜ r ≡ badRow (now (m .entry)) (now (s .entry)) ⌝ }
-{
-    let mut row = 0;
-    while row < layout.rows {
-        if !segment::record_holds(m, layout, metric, starts, s, row) {
-            return row;
-        }
-        row += 1;
-    }
-    row
-}
-
 fn records_refusal(m: &[u8], layout: Layout, starts: &[u64; 1024], s: &[u8]) -> Refusal
     requires { ⌜ (headNumber (now m) ≡ 0) × Placed (now m) layout × (rowsOk (now m) ≡ true) × Starts (now m) (now starts) ⌝ }
     ensures { λ r. ⌜ r ≡ recordsRefusal (now (m .entry)) (now (s .entry)) ⌝ }
 {
-    let bad = bad_row(m, layout, format::metric(m), starts, s);
+    let bad = rows::bad_row(m, layout, format::metric(m), starts, s);
     if bad != layout.rows {
         return Refusal {
             number: 5,

@@ -1,7 +1,8 @@
 use borrow.Author.Tests.{eq-eqb, ne-eqb}
 use Rattle.format.specs.Fields.{rowsOf}
 use Rattle.format.proofs.Heads.{bounds}
-use Rattle.resident.specs.Build.{badRow, recordsRefusal}
+use Rattle.resident.specs.Build.{recordsRefusal}
+use Rattle.rows.specs.Rows.{badRow}
 use Rattle.resident.proofs.records_refusal.Statement.{statement}
 use Rattle.resident.proofs.records_refusal.Tie as tie
 
