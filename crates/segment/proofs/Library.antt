@@ -97,11 +97,14 @@ none-refused m expected room s a n k =
     λ i h. a .records (getD rows i 0) (in-segment m (a .passed .rows) (bounds m (a .passed .head) .most) n (getD rows i 0) (mem-getD rows i 0 h)) in
     rw (eq-eqb (badRecord m s rows) (length rows) (all-pass (λ i. recordOk m s (getD rows i 0)) (length rows) each), a .sums n k)
 
+pub accepted-number : {m : List ℕ} {expected room : ℕ} {s : List ℕ} → Accepted m expected room s → manifestNumber m expected room ≡ 0
+unfolding manifestNumber
+accepted-number {m} {expected} {room} a = rw (eq-eqb (planNumber m expected room) 0 (plans (a .passed)), a .tiling)
+
 pub accepted-library : (m : List ℕ) (expected room : ℕ) (s : List ℕ) → Accepted m expected room s → libraryRefusal m expected room s ≡ none
-unfolding libraryRefusal segmentsRefusal inOrder manifestNumber
+unfolding libraryRefusal segmentsRefusal inOrder
 accepted-library m expected room s a =
-    let p = a .passed in
-    let n : manifestNumber m expected room ≡ 0 = rw (eq-eqb (planNumber m expected room) 0 (plans p), a .tiling) in
+    let n = accepted-number a in
     let each : (n : ℕ) → n < segmentsOf m → eqb (segmentRefusal m s n .number) 0 ≡ true =
     λ n k. eq-eqb (segmentRefusal m s n .number) 0 (ap (λ (r : Refusal). r .number) (none-refused m expected room s a n k)) in
     rw (eq-eqb (manifestNumber m expected room) 0 n, eq-eqb (length s) (startOf m (segmentsOf m)) (a .whole), eq-eqb (badSegment m s) (segmentsOf m) (all-pass (λ n. eqb (segmentRefusal m s n .number) 0) (segmentsOf m) each))
