@@ -1,2 +1,3 @@
 -- Laws of preparing.
 pub mod Stored
+pub mod Opened

@@ -7,7 +7,7 @@ use native.Mathlib.Omega.{arith}
 use lib.Dec.{leb, eqb}
 use lib.ListN.{length, take, drop, length-append}
 use lib.Seq.{take-at}
-use borrow.Author.Tests.{leb-true, eqb-true, eq-eqb, ne-eqb}
+use borrow.Author.Tests.{leb-true, eqb-true, eqb-false, eq-eqb, ne-eqb}
 use Rattle.le.specs.Le.{bytes, paste}
 use Rattle.le.proofs.LeLaws.{length-bytes}
 use Rattle.le.proofs.Pastes.{paste-first, paste-next}
@@ -19,6 +19,8 @@ use Rattle.geometry.specs.Cache.{identity, identityLength, cacheHead, cacheByte
 use Rattle.geometry.proofs.Parts.{length-identity, length-head}
 use Rattle.quantized_cache.specs.Size.{sizeOf, sizeNumber}
 use Rattle.geometry.specs.declared.Options.{Options}
+use Rattle.le.proofs.Chain.{by}
+use Rattle.quantized_cache.proofs.Sizes.{Passed, passed}
 use Rattle.segment.proofs.Library.{held-number}
 use Rattle.rows.specs.Rows.{rowsBytes, badRow}
 use Rattle.rows.proofs.Written.{length-rows}
@@ -97,3 +99,21 @@ refused-answer m size other n h = rw (ne-eqb n 0 h)
 pub refused-cache : (m s platform root d : List ℕ) (n : ℕ) → (n ≡ 0 → ⊥) → d ≡ cacheAfter m s platform root (refused n 0) d
 unfolding cacheAfter
 refused-cache m s platform root d n h = rw (ne-eqb n 0 h)
+
+-- what is prepared has passed all tests
+pub record Ready (m : List ℕ) (expected room : ℕ) (s platform root : List ℕ) (o : Options) (lent : ℕ) : Type 0 where
+  pub number : sizeNumber m expected room platform root o ≡ 0
+  pub library : Passed m expected room platform root o
+  pub fits : sizeOf m platform root ≤ lent
+  pub records : badRow m s ≡ rowsOf m
+
+pub ready : (m : List ℕ) (expected room : ℕ) (s platform root : List ℕ) (o : Options) (lent : ℕ)
+    → prepareRefusal m expected room s platform root o lent .number ≡ 0 → Ready m expected room s platform root o lent
+unfolding prepareRefusal
+ready m expected room s platform root o lent h =
+    let n = sizeNumber m expected room platform root o in
+    by (eqb n 0)
+    (λ e. let z = eqb-true n 0 e in
+    let l = late-passed m s (sizeOf m platform root) lent (rw e at h) in
+    record { number = z; library = passed m expected room platform root o z; fits = l .0; records = l .1 })
+    (λ e. let f : n ≡ 0 = rw e at h in absurd (eqb-false n 0 e f))

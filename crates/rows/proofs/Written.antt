@@ -61,11 +61,11 @@ module _ (m s : List ℕ) where
       rw (more n) (paste-next d at (rowsBytes 127 midpoints m s n) (rowBytes (rowOf 127 midpoints m s n)) from (let l = length-rows n in omega (arith, l, e)) h)
 
   -- what a record that passes gives the encoder
-  pub record-parts : (r : ℕ) → recordOk m s r ≡ true → (recordAt m r + recordLength m r ≤ length s) × (finites (vectorOf m s r) ≡ true)
+  pub record-parts : (r : ℕ) → recordOk m s r ≡ true → (recordAt m r + recordLength m r ≤ length s) × (finites (vectorOf m s r) ≡ true) × (validVector (metricAt m) (dimensionsOf m) (vectorOf m s r) ≡ true)
   unfolding recordOk partsOk
   record-parts r h =
       let a = both {a = leb (recordAt m r + recordLength m r) (length s)} h in
       let b = both {a = eqb (leAt 8 s (recordAt m r)) (idAt m r) && eqb (leAt 4 s (recordAt m r + 8)) (metadataAt m r) && validVector (metricAt m) (dimensionsOf m) (vectorOf m s r)}
       {b = valid (take (metadataAt m r) (drop (recordAt m r + 12 + 4 * dimensionsOf m) s))} (a .1) in
       let c = both {a = eqb (leAt 8 s (recordAt m r)) (idAt m r) && eqb (leAt 4 s (recordAt m r + 8)) (metadataAt m r)} (b .0) in
-      (leb-true (recordAt m r + recordLength m r) (length s) (a .0), valid-parts (metricAt m) (dimensionsOf m) (vectorOf m s r) (c .1) .1)
+      (leb-true (recordAt m r + recordLength m r) (length s) (a .0), valid-parts (metricAt m) (dimensionsOf m) (vectorOf m s r) (c .1) .1, c .1)

@@ -1,0 +1,239 @@
+-- What preparing stores is opened: its length and head, each of its rows, and its CRC-32 pass. Assumes nothing.
+use mathlib.Core.Path.{_≡_, refl, sym, ap, _∙_}
+use mathlib.Core.Logic.{⊎-elim}
+use mathlib.Core.Bool.{true}
+use mathlib.Core.List.{List, [], _∷_, _++_, map, append-nil, append-assoc}
+use Prim.Native.Nat.{ℕ, zero, suc, _+_, _-_, _*_, _/_, _%_, _^_, _≤_, _<_}
+use native.Mathlib.Nat.{zero-mul, suc-mul}
+use native.Mathlib.Numerals.{add-one}
+use native.Mathlib.Omega.{arith}
+use mir.Syntax.{w8, w64}
+use mir.Val.{ofZ}
+use lib.IntN.{ℤ, pos, negsuc, natAbs}
+use lib.Ieee.{binary64, toBits}
+use lib.Bits.{bitXor, xor-lt}
+use lib.ListN.{length, take, drop, length-append}
+use lib.Seq.{take-at, drop-at, take-length}
+use borrow.Author.Tests.{eq-eqb}
+use Rattle.le.specs.Le.{le, bytes}
+use Rattle.le.proofs.Chain.{lt-or-le}
+use Rattle.le.proofs.LeLaws.{AllBytes, le-bytes-all, length-bytes, bytes-all, append-bytes, take-bytes, drop-bytes}
+use Rattle.crc32.specs.Crc.{step, steps, update, crc32}
+use Rattle.config.specs.Refusal.{none}
+use Rattle.config.specs.Vector.{floatsAt}
+use Rattle.config.proofs.Vectors.{length-floats}
+use Rattle.config.proofs.Coordinates.{floats-fit}
+use Rattle.codes.specs.Codes.{within}
+use Rattle.quantization.specs.View.{rowBytes, rowAt, validRow}
+use Rattle.quantization.specs.Encoder.{encode, midpoints}
+use Rattle.quantization.proofs.Codes.{within-cons}
+use Rattle.quantization.proofs.Encoded.{written-reads, encoded-valid, codes-within}
+use Rattle.format.specs.Fields.{dimensionsOf, rowsOf, metricAt}
+use Rattle.format.proofs.Heads.{bounds}
+use Rattle.format.proofs.First.{all-pass, each-passes}
+use Rattle.segment.specs.Record.{recordAt, recordOk}
+use Rattle.geometry.specs.Cache.{cacheMagic, counted, inner, identity, rowLength, cacheHead, cacheBytes}
+use Rattle.geometry.specs.declared.Options.{Options}
+use Rattle.geometry.proofs.Parts.{length-head, length-cache, length-identity, magic-bytes}
+use Rattle.geometry.proofs.Opens.{head-opens}
+use Rattle.quantized_cache.specs.Size.{sizeOf, sizeNumber}
+use Rattle.quantized_cache.specs.Open.{rowStart, cachedOk, badRow, sealOk, contentRefusal, openNumber, openRefusal}
+use Rattle.rows.specs.Rows.{rowOf, rowsBytes, badRow as badRecord}
+use Rattle.prepare.specs.Prepare.{prepareRefusal, cacheOf, cacheAfter}
+use Rattle.quantized_cache.proofs.Sizes.{sizing-in}
+use Rattle.quantized_cache.proofs.Opens.{lies, first-start}
+use Rattle.rows.proofs.Written.{length-rows, record-parts}
+use Rattle.prepare.proofs.Stored.{ready}
+
+-- ---- the CRC-32
+
+step-lt : (c : ℕ) → c < 2 ^ 32 → step c < 2 ^ 32
+unfolding step
+step-lt c h = xor-lt 32 (c / 2) (c % 2 * 0xEDB88320) (omega arith) (omega arith)
+
+steps-lt : (n c : ℕ) → c < 2 ^ 32 → steps n c < 2 ^ 32
+unfolding steps
+steps-lt zero c h = h
+steps-lt (suc n) c h = steps-lt n (step c) (step-lt c h)
+
+update-lt : (c : ℕ) (s : List ℕ) → c < 2 ^ 32 → AllBytes s → update c s < 2 ^ 32
+unfolding update
+update-lt c [] h b = h
+update-lt c (x ∷ s) h b = update-lt (steps 8 (bitXor c x)) s (steps-lt 8 (bitXor c x) (xor-lt 32 c x h (omega (arith, b .0)))) (b .1)
+
+pub crc-lt : (s : List ℕ) → AllBytes s → crc32 s < 2 ^ 32
+unfolding crc32
+crc-lt s b = xor-lt 32 (update 0xFFFFFFFF s) 0xFFFFFFFF (update-lt 0xFFFFFFFF s (omega arith) b) (omega arith)
+
+seal-holds : (x : List ℕ) → AllBytes x → sealOk (x ++ bytes 4 (crc32 x)) ≡ true
+unfolding sealOk
+seal-holds x b =
+    let t = bytes 4 (crc32 x) in
+    let k = length-bytes 4 (crc32 x) in
+    let l : length (x ++ t) - 4 ≡ length x = simp length-append (omega (arith, k)) in
+    let w : take 4 t ≡ t = ap (λ (n : ℕ). take n t) (sym k) ∙ take-length t in
+    rw (l, take-at x t (length x) refl, drop-at x t (length x) refl)
+    (eq-eqb (crc32 x) (le (take 4 t)) (sym (ap le w ∙ le-bytes-all 4 (crc32 x) (crc-lt x b))))
+
+-- ---- the rows
+
+module _ (m s : List ℕ) where
+  -- row n, and what follows it among the first k
+  record Rest (n k : ℕ) : Type 0 where
+    pub rest : List ℕ
+    pub is : rowsBytes 127 midpoints m s k ≡ rowsBytes 127 midpoints m s n ++ rowBytes (rowOf 127 midpoints m s n) ++ rest
+
+  rest-of : (k n : ℕ) → n < k → Rest n k
+  unfolding rowsBytes
+  rest-of zero n h = absurd (omega arith)
+  rest-of (suc k) n h =
+      ⊎-elim {C = Rest n (suc k)}
+      (λ (l : n < k). let r = rest-of k n l in
+      record { rest = r .rest ++ rowBytes (rowOf 127 midpoints m s k); is = ap (λ (x : List ℕ). x ++ rowBytes (rowOf 127 midpoints m s k)) (r .is) ∙ append-assoc (rowsBytes 127 midpoints m s n ++ rowBytes (rowOf 127 midpoints m s n)) (r .rest) (rowBytes (rowOf 127 midpoints m s k)) })
+      (λ (g : k ≤ n). let e : n ≡ k = omega arith in record { rest = []; is = rw e (sym (append-nil (rowsBytes 127 midpoints m s k ++ rowBytes (rowOf 127 midpoints m s k)))) }) (lt-or-le n k)
+
+  -- a row between other bytes is valid where its record is
+  row-valid : (r : ℕ) (p q : List ℕ) → dimensionsOf m ≤ 4096 → recordOk m s r ≡ true
+      → validRow 127 (metricAt m) (rowAt (dimensionsOf m) (p ++ rowBytes (rowOf 127 midpoints m s r) ++ q) (length p)) ≡ true
+  row-valid r p q h k =
+      let at = recordAt m r + 12 in
+      let v = floatsAt (dimensionsOf m) s at in
+      let l = length-floats (dimensionsOf m) s at in
+      let w : rowAt (dimensionsOf m) (p ++ rowBytes (encode 127 midpoints v) ++ q) (length p) ≡ encode 127 midpoints v =
+      ap (λ (n : ℕ). rowAt n (p ++ rowBytes (encode 127 midpoints v) ++ q) (length p)) (sym l) ∙ written-reads v p q (rw l h) in
+      ap (validRow 127 (metricAt m)) w ∙ encoded-valid (metricAt m) (dimensionsOf m) v (floats-fit (dimensionsOf m) s at) (record-parts m s r k .2)
+
+  -- where row n of a cache with a front and a CRC-32 of 4 bytes starts
+  start-is : (front n : ℕ) → n ≤ rowsOf m
+      → rowStart (front + rowsOf m * rowLength (dimensionsOf m) + 4) (rowsOf m) (dimensionsOf m) n ≡ front + n * rowLength (dimensionsOf m)
+  start-is front zero h =
+      let z = zero-mul (rowLength (dimensionsOf m)) in
+      sym (first-start (front + rowsOf m * rowLength (dimensionsOf m) + 4) (rowsOf m) (dimensionsOf m)) ∙ omega (arith, z)
+  start-is front (suc n) h =
+      let size = front + rowsOf m * rowLength (dimensionsOf m) + 4 in
+      let i = start-is front n (omega arith) in
+      let k = lies size (rowsOf m) (dimensionsOf m) n (omega arith) (omega arith) .next in
+      let j = suc-mul n (rowLength (dimensionsOf m)) in
+      let f : rowStart size (rowsOf m) (dimensionsOf m) (n + 1) ≡ front + suc n * rowLength (dimensionsOf m) = omega (arith, i, j, k) in
+      rw (add-one n) at f
+
+  -- a front, the rows of valid records and 4 bytes: every row is valid
+  rows-valid : (front t : List ℕ) → length t ≡ 4 → dimensionsOf m ≤ 4096 → badRecord m s ≡ rowsOf m
+      → badRow (metricAt m) (rowsOf m) (dimensionsOf m) (front ++ rowsBytes 127 midpoints m s (rowsOf m) ++ t) ≡ rowsOf m
+  unfolding cachedOk
+  rows-valid front t e h b =
+      let cache = front ++ rowsBytes 127 midpoints m s (rowsOf m) ++ t in
+      let k = length-rows m s (rowsOf m) in
+      let l : length cache ≡ length front + rowsOf m * rowLength (dimensionsOf m) + 4 = simp length-append (omega (arith, k, e)) in
+      all-pass (cachedOk (metricAt m) (rowsOf m) (dimensionsOf m) cache) (rowsOf m)
+      (λ n i. let r = rest-of (rowsOf m) n i in
+      let p = front ++ rowsBytes 127 midpoints m s n in
+      let c : cache ≡ p ++ rowBytes (rowOf 127 midpoints m s n) ++ (r .rest ++ t) = rw (r .is) (simp append-assoc) in
+      let a : rowStart (length cache) (rowsOf m) (dimensionsOf m) n ≡ length p =
+      ap (λ (z : ℕ). rowStart z (rowsOf m) (dimensionsOf m) n) l ∙ start-is (length front) n (omega (arith, i)) ∙ sym (length-append front (rowsBytes 127 midpoints m s n) ∙ ap (λ (z : ℕ). length front + z) (length-rows m s n)) in
+      ap (λ (z : ℕ). validRow 127 (metricAt m) (rowAt (dimensionsOf m) cache z)) a
+      ∙ ap (λ (x : List ℕ). validRow 127 (metricAt m) (rowAt (dimensionsOf m) x (length p))) c
+      ∙ row-valid n p (r .rest ++ t) h (each-passes (recordOk m s) (rowsOf m) n b i))
+
+-- ---- all are bytes
+
+code-byte : (z : ℤ) → natAbs z ≤ 127 → ofZ w8 z < 256
+code-byte (pos n) h = omega arith
+code-byte (negsuc n) h = omega arith
+
+codes-bytes : (cs : List ℤ) → within 127 cs ≡ true → AllBytes (map (ofZ w8) cs)
+codes-bytes [] h = tt
+codes-bytes (z ∷ cs) h = let k = within-cons 127 z cs h in (code-byte z (k .0), codes-bytes cs (k .1))
+
+row-bytes : (m s : List ℕ) (r : ℕ) → AllBytes (rowBytes (rowOf 127 midpoints m s r))
+unfolding rowBytes
+row-bytes m s r =
+    let v = floatsAt (dimensionsOf m) s (recordAt m r + 12) in
+    let e = encode 127 midpoints v in
+    let a = bytes-all 8 (toBits binary64 (e .scale)) in
+    let b = bytes-all 8 (ofZ w64 (e .norm)) in
+    append-bytes (bytes 8 (toBits binary64 (e .scale)) ++ bytes 8 (ofZ w64 (e .norm))) (map (ofZ w8) (e .codes)) (append-bytes (bytes 8 (toBits binary64 (e .scale))) (bytes 8 (ofZ w64 (e .norm))) a b)
+    (codes-bytes (e .codes) (codes-within v))
+
+rows-bytes : (m s : List ℕ) (n : ℕ) → AllBytes (rowsBytes 127 midpoints m s n)
+unfolding rowsBytes
+rows-bytes m s zero = tt
+rows-bytes m s (suc n) = append-bytes (rowsBytes 127 midpoints m s n) (rowBytes (rowOf 127 midpoints m s n)) (rows-bytes m s n) (row-bytes m s n)
+
+counted-bytes : (s : List ℕ) → AllBytes s → AllBytes (counted s)
+unfolding counted
+counted-bytes s h = append-bytes (bytes 4 (length s)) s (bytes-all 4 (length s)) h
+
+identity-bytes : (platform root m : List ℕ) → AllBytes platform → AllBytes root → AllBytes m → AllBytes (identity platform root m)
+unfolding identity
+identity-bytes platform root m p r h =
+    append-bytes (counted platform ++ counted root) (inner m) (append-bytes (counted platform) (counted root) (counted-bytes platform p) (counted-bytes root r))
+    (take-bytes (length m - 12) (drop 8 m) (drop-bytes 8 m h))
+
+magic-all : AllBytes cacheMagic
+magic-all = rw magic-bytes at (bytes-all 8 0x3130_3851_5343_4556)
+
+head-bytes : (version : ℕ) (i : List ℕ) → AllBytes i → AllBytes (cacheHead version i)
+unfolding cacheHead
+head-bytes version i h = append-bytes (cacheMagic ++ bytes 4 version) (counted i) (append-bytes cacheMagic (bytes 4 version) magic-all (bytes-all 4 version)) (counted-bytes i h)
+
+-- ---- the whole
+
+-- a prepared library, with the bytes before its cache's CRC-32
+module _ (m : List ℕ) (expected room : ℕ) (s platform root : List ℕ) (o : Options) (lent : ℕ)
+    (h : prepareRefusal m expected room s platform root o lent .number ≡ 0) where
+  abbrev content : List ℕ
+  content = cacheHead 1 (identity platform root m) ++ rowsBytes 127 midpoints m s (rowsOf m)
+
+  parts : cacheOf m s platform root ≡ content ++ bytes 4 (crc32 content)
+  unfolding cacheOf cacheBytes
+  parts = refl
+
+  -- the cache has the size
+  pub cache-long : length (cacheOf m s platform root) ≡ sizeOf m platform root
+  unfolding cacheOf
+  cache-long =
+      let b = bounds m (ready m expected room s platform root o lent h .library .manifest .head) in
+      let l = length-identity platform root m (omega (arith, b .long)) in
+      let k = length-rows m s (rowsOf m) in
+      let c = length-cache 1 (identity platform root m) (rowsBytes 127 midpoints m s (rowsOf m)) in
+      omega (arith, l, k, c)
+
+  number : openNumber m expected room (cacheOf m s platform root) platform root o ≡ 0
+  unfolding openNumber
+  number =
+      let r = ready m expected room s platform root o lent h in
+      let b = bounds m (r .library .manifest .head) in
+      let z = sizing-in m platform root o (r .library .sizing) in
+      let i = identity platform root m in
+      let rows = rowsBytes 127 midpoints m s (rowsOf m) in
+      let l = length-identity platform root m (omega (arith, b .long)) in
+      let front : take (16 + length i) (cacheOf m s platform root) ≡ cacheHead 1 i =
+      ap (take (16 + length i)) (parts ∙ append-assoc (cacheHead 1 i) rows (bytes 4 (crc32 content)))
+      ∙ take-at (cacheHead 1 i) (rows ++ bytes 4 (crc32 content)) (16 + length i) (length-head 1 i) in
+      rw (eq-eqb (sizeNumber m expected room platform root o) 0 (r .number))
+      (head-opens 1 (sizeOf m platform root) i (cacheOf m s platform root) (omega arith) (omega (arith, l, z .platform-short, z .root-short, b .short)) (omega (arith, l)) cache-long front)
+
+  rows-pass : AllBytes content → contentRefusal (metricAt m) (rowsOf m) (dimensionsOf m) (cacheOf m s platform root) ≡ none
+  unfolding contentRefusal
+  rows-pass a =
+      let r = ready m expected room s platform root o lent h in
+      let b = bounds m (r .library .manifest .head) in
+      let t = bytes 4 (crc32 content) in
+      let v = rows-valid m s (cacheHead 1 (identity platform root m)) t (length-bytes 4 (crc32 content)) (b .high) (r .records) in
+      rw (parts, eq-eqb (badRow (metricAt m) (rowsOf m) (dimensionsOf m) (content ++ t)) (rowsOf m) v, seal-holds content a)
+
+  -- document 01, Contracts: against "an opener refusing every cache" and "preparation that stores nothing"
+  pub prepared-opens : AllBytes m → AllBytes platform → AllBytes root → openRefusal m expected room (cacheOf m s platform root) platform root o ≡ none
+  unfolding openRefusal
+  prepared-opens a p r =
+      let i = identity platform root m in
+      let b = append-bytes (cacheHead 1 i) (rowsBytes 127 midpoints m s (rowsOf m)) (head-bytes 1 i (identity-bytes platform root m p r a)) (rows-bytes m s (rowsOf m)) in
+      rw (eq-eqb (openNumber m expected room (cacheOf m s platform root) platform root o) 0 number) (rows-pass b)
+
+  -- the slice of the cache's size, as preparing leaves it
+  pub prepared-slice : (d : List ℕ) → take (sizeOf m platform root) (cacheAfter m s platform root (prepareRefusal m expected room s platform root o lent) d) ≡ cacheOf m s platform root
+  unfolding cacheAfter
+  prepared-slice d =
+      rw (eq-eqb (prepareRefusal m expected room s platform root o lent .number) 0 h)
+      (take-at (cacheOf m s platform root) (drop (sizeOf m platform root) d) (sizeOf m platform root) cache-long)
