@@ -73,3 +73,11 @@ held-rows m expected t h =
     let a = accepted m expected (length t) h in
     let p = or-else (planNumber m expected (length t)) (cond (tiled m) 0 4) h .0 in
     rw (eq-eqb (planNumber m expected (length t)) 0 p, a .1) (take-ordered m t, length-ordered m t (a .0 .roomy))
+
+-- an accepted manifest is accepted with every scratch that is long enough
+pub other-room : (m : List ℕ) (expected room other : ℕ) → manifestNumber m expected room ≡ 0 → rowsOf m ≤ other → manifestNumber m expected other ≡ 0
+unfolding manifestNumber
+other-room m expected room other h f =
+    let a = accepted m expected room h in
+    let p = a .0 in
+    rw (eq-eqb (planNumber m expected other) 0 (plans (record { head = p .head; rows = p .rows; crc = p .crc; roomy = f })), a .1)

@@ -36,7 +36,9 @@ use Rattle.geometry.specs.Cache.{cacheMagic, counted, inner, identity, rowLengt
 use Rattle.geometry.specs.declared.Options.{Options}
 use Rattle.geometry.proofs.Parts.{length-head, length-cache, length-identity, magic-bytes}
 use Rattle.geometry.proofs.Opens.{head-opens}
-use Rattle.quantized_cache.specs.Size.{sizeOf, sizeNumber}
+use Rattle.manifest.specs.Check.{manifestNumber}
+use Rattle.manifest.proofs.Passed.{or-else, other-room}
+use Rattle.quantized_cache.specs.Size.{sizeOf, sizingOf, sizeNumber}
 use Rattle.quantized_cache.specs.Open.{rowStart, cachedOk, badRow, sealOk, contentRefusal, openNumber, openRefusal}
 use Rattle.rows.specs.Rows.{rowOf, rowsBytes, badRow as badRecord}
 use Rattle.prepare.specs.Prepare.{prepareRefusal, cacheOf, cacheAfter}
@@ -92,16 +94,18 @@ module _ (m s : List ℕ) where
       record { rest = r .rest ++ rowBytes (rowOf 127 midpoints m s k); is = ap (λ (x : List ℕ). x ++ rowBytes (rowOf 127 midpoints m s k)) (r .is) ∙ append-assoc (rowsBytes 127 midpoints m s n ++ rowBytes (rowOf 127 midpoints m s n)) (r .rest) (rowBytes (rowOf 127 midpoints m s k)) })
       (λ (g : k ≤ n). let e : n ≡ k = omega arith in record { rest = []; is = rw e (sym (append-nil (rowsBytes 127 midpoints m s k ++ rowBytes (rowOf 127 midpoints m s k)))) }) (lt-or-le n k)
 
-  -- a row between other bytes is valid where its record is
-  row-valid : (r : ℕ) (p q : List ℕ) → dimensionsOf m ≤ 4096 → recordOk m s r ≡ true
-      → validRow 127 (metricAt m) (rowAt (dimensionsOf m) (p ++ rowBytes (rowOf 127 midpoints m s r) ++ q) (length p)) ≡ true
-  row-valid r p q h k =
+  -- a row between other bytes is read as the encoder's own
+  row-read : (r : ℕ) (p q : List ℕ) → dimensionsOf m ≤ 4096
+      → rowAt (dimensionsOf m) (p ++ rowBytes (rowOf 127 midpoints m s r) ++ q) (length p) ≡ rowOf 127 midpoints m s r
+  row-read r p q h =
+      let v = floatsAt (dimensionsOf m) s (recordAt m r + 12) in
+      let l = length-floats (dimensionsOf m) s (recordAt m r + 12) in
+      ap (λ (n : ℕ). rowAt n (p ++ rowBytes (encode 127 midpoints v) ++ q) (length p)) (sym l) ∙ written-reads v p q (rw l h)
+
+  row-valid : (r : ℕ) → recordOk m s r ≡ true → validRow 127 (metricAt m) (rowOf 127 midpoints m s r) ≡ true
+  row-valid r k =
       let at = recordAt m r + 12 in
-      let v = floatsAt (dimensionsOf m) s at in
-      let l = length-floats (dimensionsOf m) s at in
-      let w : rowAt (dimensionsOf m) (p ++ rowBytes (encode 127 midpoints v) ++ q) (length p) ≡ encode 127 midpoints v =
-      ap (λ (n : ℕ). rowAt n (p ++ rowBytes (encode 127 midpoints v) ++ q) (length p)) (sym l) ∙ written-reads v p q (rw l h) in
-      ap (validRow 127 (metricAt m)) w ∙ encoded-valid (metricAt m) (dimensionsOf m) v (floats-fit (dimensionsOf m) s at) (record-parts m s r k .2)
+      encoded-valid (metricAt m) (dimensionsOf m) (floatsAt (dimensionsOf m) s at) (floats-fit (dimensionsOf m) s at) (record-parts m s r k .2)
 
   -- where row n of a cache with a front and a CRC-32 of 4 bytes starts
   start-is : (front n : ℕ) → n ≤ rowsOf m
@@ -117,23 +121,29 @@ module _ (m s : List ℕ) where
       let f : rowStart size (rowsOf m) (dimensionsOf m) (n + 1) ≡ front + suc n * rowLength (dimensionsOf m) = omega (arith, i, j, k) in
       rw (add-one n) at f
 
-  -- a front, the rows of valid records and 4 bytes: every row is valid
+  -- a front, the rows and 4 bytes: row n is the encoder's own
+  rows-read : (front t : List ℕ) → length t ≡ 4 → dimensionsOf m ≤ 4096 → (n : ℕ) → n < rowsOf m
+      → let cache = front ++ rowsBytes 127 midpoints m s (rowsOf m) ++ t in
+      rowAt (dimensionsOf m) cache (rowStart (length cache) (rowsOf m) (dimensionsOf m) n) ≡ rowOf 127 midpoints m s n
+  rows-read front t e h n i =
+      let cache = front ++ rowsBytes 127 midpoints m s (rowsOf m) ++ t in
+      let k = length-rows m s (rowsOf m) in
+      let l : length cache ≡ length front + rowsOf m * rowLength (dimensionsOf m) + 4 = simp length-append (omega (arith, k, e)) in
+      let r = rest-of (rowsOf m) n i in
+      let p = front ++ rowsBytes 127 midpoints m s n in
+      let c : cache ≡ p ++ rowBytes (rowOf 127 midpoints m s n) ++ (r .rest ++ t) = rw (r .is) (simp append-assoc) in
+      let a : rowStart (length cache) (rowsOf m) (dimensionsOf m) n ≡ length p =
+      ap (λ (z : ℕ). rowStart z (rowsOf m) (dimensionsOf m) n) l ∙ start-is (length front) n (omega (arith, i))
+      ∙ sym (length-append front (rowsBytes 127 midpoints m s n) ∙ ap (λ (z : ℕ). length front + z) (length-rows m s n)) in
+      ap (λ (z : ℕ). rowAt (dimensionsOf m) cache z) a ∙ ap (λ (x : List ℕ). rowAt (dimensionsOf m) x (length p)) c ∙ row-read n p (r .rest ++ t) h
+
+  -- and where no record is bad, every row is valid
   rows-valid : (front t : List ℕ) → length t ≡ 4 → dimensionsOf m ≤ 4096 → badRecord m s ≡ rowsOf m
       → badRow (metricAt m) (rowsOf m) (dimensionsOf m) (front ++ rowsBytes 127 midpoints m s (rowsOf m) ++ t) ≡ rowsOf m
   unfolding cachedOk
   rows-valid front t e h b =
-      let cache = front ++ rowsBytes 127 midpoints m s (rowsOf m) ++ t in
-      let k = length-rows m s (rowsOf m) in
-      let l : length cache ≡ length front + rowsOf m * rowLength (dimensionsOf m) + 4 = simp length-append (omega (arith, k, e)) in
-      all-pass (cachedOk (metricAt m) (rowsOf m) (dimensionsOf m) cache) (rowsOf m)
-      (λ n i. let r = rest-of (rowsOf m) n i in
-      let p = front ++ rowsBytes 127 midpoints m s n in
-      let c : cache ≡ p ++ rowBytes (rowOf 127 midpoints m s n) ++ (r .rest ++ t) = rw (r .is) (simp append-assoc) in
-      let a : rowStart (length cache) (rowsOf m) (dimensionsOf m) n ≡ length p =
-      ap (λ (z : ℕ). rowStart z (rowsOf m) (dimensionsOf m) n) l ∙ start-is (length front) n (omega (arith, i)) ∙ sym (length-append front (rowsBytes 127 midpoints m s n) ∙ ap (λ (z : ℕ). length front + z) (length-rows m s n)) in
-      ap (λ (z : ℕ). validRow 127 (metricAt m) (rowAt (dimensionsOf m) cache z)) a
-      ∙ ap (λ (x : List ℕ). validRow 127 (metricAt m) (rowAt (dimensionsOf m) x (length p))) c
-      ∙ row-valid n p (r .rest ++ t) h (each-passes (recordOk m s) (rowsOf m) n b i))
+      all-pass (cachedOk (metricAt m) (rowsOf m) (dimensionsOf m) (front ++ rowsBytes 127 midpoints m s (rowsOf m) ++ t)) (rowsOf m)
+      (λ n i. ap (validRow 127 (metricAt m)) (rows-read front t e h n i) ∙ row-valid n (each-passes (recordOk m s) (rowsOf m) n b i))
 
 -- ---- all are bytes
 
@@ -199,9 +209,17 @@ module _ (m : List ℕ) (expected room : ℕ) (s platform root : List ℕ) (o : 
       let c = length-cache 1 (identity platform root m) (rowsBytes 127 midpoints m s (rowsOf m)) in
       omega (arith, l, k, c)
 
-  number : openNumber m expected room (cacheOf m s platform root) platform root o ≡ 0
+  -- whatever scratch of at least rows elements is lent
+  sized-again : (other : ℕ) → rowsOf m ≤ other → sizeNumber m expected other platform root o ≡ 0
+  unfolding sizeNumber
+  sized-again other f =
+      let r = ready m expected room s platform root o lent h in
+      let p = or-else (manifestNumber m expected room) (sizingOf m platform root o) (r .number) in
+      rw (eq-eqb (manifestNumber m expected other) 0 (other-room m expected room other (p .0) f)) (p .1)
+
+  number : (other : ℕ) → rowsOf m ≤ other → openNumber m expected other (cacheOf m s platform root) platform root o ≡ 0
   unfolding openNumber
-  number =
+  number other f =
       let r = ready m expected room s platform root o lent h in
       let b = bounds m (r .library .manifest .head) in
       let z = sizing-in m platform root o (r .library .sizing) in
@@ -211,7 +229,7 @@ module _ (m : List ℕ) (expected room : ℕ) (s platform root : List ℕ) (o : 
       let front : take (16 + length i) (cacheOf m s platform root) ≡ cacheHead 1 i =
       ap (take (16 + length i)) (parts ∙ append-assoc (cacheHead 1 i) rows (bytes 4 (crc32 content)))
       ∙ take-at (cacheHead 1 i) (rows ++ bytes 4 (crc32 content)) (16 + length i) (length-head 1 i) in
-      rw (eq-eqb (sizeNumber m expected room platform root o) 0 (r .number))
+      rw (eq-eqb (sizeNumber m expected other platform root o) 0 (sized-again other f))
       (head-opens 1 (sizeOf m platform root) i (cacheOf m s platform root) (omega arith) (omega (arith, l, z .platform-short, z .root-short, b .short)) (omega (arith, l)) cache-long front)
 
   rows-pass : AllBytes content → contentRefusal (metricAt m) (rowsOf m) (dimensionsOf m) (cacheOf m s platform root) ≡ none
@@ -224,12 +242,13 @@ module _ (m : List ℕ) (expected room : ℕ) (s platform root : List ℕ) (o : 
       rw (parts, eq-eqb (badRow (metricAt m) (rowsOf m) (dimensionsOf m) (content ++ t)) (rowsOf m) v, seal-holds content a)
 
   -- document 01, Contracts: against "an opener refusing every cache" and "preparation that stores nothing"
-  pub prepared-opens : AllBytes m → AllBytes platform → AllBytes root → openRefusal m expected room (cacheOf m s platform root) platform root o ≡ none
+  pub prepared-opens : AllBytes m → AllBytes platform → AllBytes root → (other : ℕ) → rowsOf m ≤ other
+      → openRefusal m expected other (cacheOf m s platform root) platform root o ≡ none
   unfolding openRefusal
-  prepared-opens a p r =
+  prepared-opens a p r other f =
       let i = identity platform root m in
       let b = append-bytes (cacheHead 1 i) (rowsBytes 127 midpoints m s (rowsOf m)) (head-bytes 1 i (identity-bytes platform root m p r a)) (rows-bytes m s (rowsOf m)) in
-      rw (eq-eqb (openNumber m expected room (cacheOf m s platform root) platform root o) 0 number) (rows-pass b)
+      rw (eq-eqb (openNumber m expected other (cacheOf m s platform root) platform root o) 0 (number other f)) (rows-pass b)
 
   -- the slice of the cache's size, as preparing leaves it
   pub prepared-slice : (d : List ℕ) → take (sizeOf m platform root) (cacheAfter m s platform root (prepareRefusal m expected room s platform root o lent) d) ≡ cacheOf m s platform root
@@ -237,3 +256,10 @@ module _ (m : List ℕ) (expected room : ℕ) (s platform root : List ℕ) (o : 
   prepared-slice d =
       rw (eq-eqb (prepareRefusal m expected room s platform root o lent .number) 0 h)
       (take-at (cacheOf m s platform root) (drop (sizeOf m platform root) d) (sizeOf m platform root) cache-long)
+
+  -- and its rows are the encoder's own
+  pub prepared-rows : (n : ℕ) → n < rowsOf m
+      → rowAt (dimensionsOf m) (cacheOf m s platform root) (rowStart (length (cacheOf m s platform root)) (rowsOf m) (dimensionsOf m) n) ≡ rowOf 127 midpoints m s n
+  prepared-rows n i =
+      let b = bounds m (ready m expected room s platform root o lent h .library .manifest .head) in
+      rw parts (rows-read m s (cacheHead 1 (identity platform root m)) (bytes 4 (crc32 content)) (length-bytes 4 (crc32 content)) (b .high) n i)
