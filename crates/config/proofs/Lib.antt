@@ -1,3 +1,4 @@
 -- Laws that belong to no one function.
 pub mod Vectors
 pub mod Coordinates
+pub mod Refusals

@@ -1,5 +1,7 @@
 -- A refusal (document 01, What each place turns away: "A refusal returns its number and a place"); number 0, place 0 is none.
+use mathlib.Core.Bool.{cond}
 use Prim.Native.Nat.{ℕ}
+use lib.Dec.{eqb}
 use Rattle.config.specs.declared.Refusal.{Refusal}
 
 abbrev pub none : Refusal
@@ -7,3 +9,12 @@ none = record { number = 0; place = 0 }
 
 abbrev pub refused : ℕ → ℕ → Refusal
 refused n p = record { number = n; place = p }
+
+-- tests in their order: the number of those before, at 0, or where it is 0 what the rest says
+abbrev pub refusedOr : ℕ → Refusal → Refusal
+refusedOr number rest = cond (eqb number 0) rest (refused number 0)
+
+-- what is answered, or stands in a lent slice: the first where nothing is refused, else the second ("All counts are then 0. Answer slices,
+-- resident slices and the cache are untouched")
+abbrev pub unlessRefused : {A : Type 0} → Refusal → A → A → A
+unlessRefused refusal done other = cond (eqb (refusal .number) 0) done other

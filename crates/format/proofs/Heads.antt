@@ -2,12 +2,13 @@
 use mathlib.Core.Path.{_≡_}
 use mathlib.Core.Bool.{Bool, true, _&&_, and-eq-true-iff}
 use mathlib.Core.List.{List}
-use Prim.Native.Nat.{ℕ, suc, _+_, _*_, _≤_, _<_}
+use Prim.Native.Nat.{ℕ, _+_, _*_, _≤_, _<_}
 use native.Mathlib.Omega.{arith}
 use lib.Dec.{leb}
 use borrow.Author.Tests.{leb-true, eqb-true}
 use lib.ListN.{length}
 use Rattle.le.proofs.Chain.{held}
+use Rattle.config.proofs.Refusals.{not-zero}
 use Rattle.config.specs.Limits.{maxManifestBytes, maxSegments, maxRecords}
 use Rattle.config.specs.Space.{validConfig}
 use Rattle.format.specs.Order.{within}
@@ -18,9 +19,6 @@ use Rattle.format.specs.declared.Layout.{Layout}
 
 pub both : {a b : Bool} → (a && b) ≡ true → (a ≡ true) × (b ≡ true)
 both {a} {b} h = and-eq-true-iff a b .0 h
-
-pub not-zero : {n : ℕ} → suc n ≡ 0 → ⊥
-not-zero e = absurd (omega arith)
 
 -- the tests of a head, all passed
 pub record Headed (m : List ℕ) : Type 0 where

@@ -11,7 +11,8 @@ use lib.Seq.{take-add, take-length}
 use Rattle.le.specs.Le.{le, leAt, bytes}
 use Rattle.le.proofs.Chain.{held}
 use Rattle.le.proofs.LeLaws.{AllBytes, le-bytes-all}
-use Rattle.format.proofs.Heads.{both, not-zero}
+use Rattle.format.proofs.Heads.{both}
+use Rattle.config.proofs.Refusals.{not-zero}
 use Rattle.format.proofs.Same.{bytes-eq, bytes-refl, bytes-in, inside}
 use Rattle.geometry.specs.Cache.{cacheMagic, counted, cacheHead}
 use Rattle.geometry.specs.Open.{headOk, sameIdentity, openNumber}

@@ -7,7 +7,8 @@ use native.Mathlib.Omega.{arith}
 use borrow.Author.Tests.{leb-true}
 use Rattle.le.proofs.Chain.{held}
 use Rattle.config.specs.Limits.{maxCodeBytes, maxCacheBytes}
-use Rattle.format.proofs.Heads.{both, not-zero, in-range}
+use Rattle.format.proofs.Heads.{both, in-range}
+use Rattle.config.proofs.Refusals.{not-zero}
 use Rattle.geometry.specs.Cache.{identityLength, rowLength, cacheSize}
 use Rattle.geometry.specs.Sizing.{placeOk, optionsOk, codesOk, sizeOk, sizingNumber}
 

@@ -2,12 +2,12 @@
 use mathlib.Core.Path.{_≡_}
 use mathlib.Core.Bool.{true, cond}
 use mathlib.Core.List.{List, map}
-use Prim.Native.Nat.{ℕ, suc, _≤_}
-use native.Mathlib.Omega.{arith}
+use Prim.Native.Nat.{ℕ, _≤_}
 use lib.Dec.{leb, eqb}
 use lib.ListN.{length, take}
 use borrow.Author.Tests.{leb-true, le-leb, eqb-true, eqb-false, eq-eqb}
 use Rattle.le.proofs.Chain.{by, held}
+use Rattle.config.proofs.Refusals.{not-zero}
 use Rattle.format.specs.Order.{orElse}
 use Rattle.format.specs.Fields.{rowsOf}
 use Rattle.format.specs.Head.{headNumber}
@@ -22,9 +22,6 @@ pub or-else : (a b : ℕ) → orElse a b ≡ 0 → (a ≡ 0) × (b ≡ 0)
 or-else a b h =
     by (eqb a 0) (λ e. (eqb-true a 0 e, rw e at h))
     (λ e. let f : a ≡ 0 = rw e at h in (f, absurd (eqb-false a 0 e f)))
-
-not-zero : {n : ℕ} → suc n ≡ 0 → ⊥
-not-zero e = absurd (omega arith)
 
 pub record Planned (m : List ℕ) (expected room : ℕ) : Type 0 where
   pub head : headNumber m ≡ 0

@@ -5,7 +5,7 @@ use mathlib.Core.List.{List}
 use Prim.Native.Nat.{ℕ}
 use lib.Dec.{eqb}
 use lib.ListN.{length, replicate}
-use Rattle.config.specs.Refusal.{refused}
+use Rattle.config.specs.Refusal.{refused, unlessRefused}
 use Rattle.config.specs.declared.Refusal.{Refusal}
 use Rattle.format.specs.Order.{unless, orElse}
 use Rattle.format.specs.Head.{headAt, zeroHead}
@@ -20,7 +20,7 @@ manifestNumber m expected room = orElse (planNumber m expected room) (unless (ti
 
 -- what is answered: a refusal and zeros, or the head (document 01: "A refusal returns its number and a place"; readings R23)
 unfoldable pub checkedBy : List ℕ → Refusal → Checked
-checkedBy m refusal = record { refusal = refusal; head = cond (eqb (refusal .number) 0) (headAt m) zeroHead }
+checkedBy m refusal = record { refusal = refusal; head = unlessRefused refusal (headAt m) zeroHead }
 
 abbrev pub checked : List ℕ → ℕ → ℕ → Checked
 checked m expected room = checkedBy m (refused (manifestNumber m expected room) 0)

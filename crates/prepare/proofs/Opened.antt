@@ -1,9 +1,8 @@
 -- What preparing stores is opened: its length and head, each of its rows, and its CRC-32 pass. Assumes nothing.
 use mathlib.Core.Path.{_≡_, refl, sym, ap, _∙_}
-use mathlib.Core.Logic.{⊎-elim}
 use mathlib.Core.Bool.{true}
-use mathlib.Core.List.{List, [], _∷_, _++_, map, append-nil, append-assoc}
-use Prim.Native.Nat.{ℕ, zero, suc, _+_, _-_, _*_, _/_, _%_, _^_, _≤_, _<_}
+use mathlib.Core.List.{List, [], _∷_, _++_, map, append-assoc}
+use Prim.Native.Nat.{ℕ, zero, suc, _+_, _-_, _*_, _≤_, _<_}
 use native.Mathlib.Nat.{zero-mul, suc-mul}
 use native.Mathlib.Numerals.{add-one}
 use native.Mathlib.Omega.{arith}
@@ -11,27 +10,26 @@ use mir.Syntax.{w8, w64}
 use mir.Val.{ofZ}
 use lib.IntN.{ℤ, pos, negsuc, natAbs}
 use lib.Ieee.{binary64, toBits}
-use lib.Bits.{bitXor, xor-lt}
 use lib.ListN.{length, take, drop, length-append}
 use lib.Seq.{take-at, drop-at, take-length}
 use borrow.Author.Tests.{eq-eqb}
 use Rattle.le.specs.Le.{le, bytes}
-use Rattle.le.proofs.Chain.{lt-or-le}
 use Rattle.le.proofs.LeLaws.{AllBytes, le-bytes-all, length-bytes, bytes-all, append-bytes, take-bytes, drop-bytes}
-use Rattle.crc32.specs.Crc.{step, steps, update, crc32}
+use Rattle.crc32.specs.Crc.{crc32}
+use Rattle.crc32.proofs.Fits.{crc-lt}
 use Rattle.config.specs.Refusal.{none}
+use Rattle.config.proofs.Refusals.{goes-on, is-done}
 use Rattle.config.specs.Vector.{floatsAt}
 use Rattle.config.proofs.Vectors.{length-floats}
-use Rattle.config.proofs.Coordinates.{floats-fit}
 use Rattle.codes.specs.Codes.{within}
 use Rattle.quantization.specs.View.{rowBytes, rowAt, validRow}
 use Rattle.quantization.specs.Encoder.{encode, midpoints}
 use Rattle.quantization.proofs.Codes.{within-cons}
-use Rattle.quantization.proofs.Encoded.{written-reads, encoded-valid, codes-within}
+use Rattle.quantization.proofs.Encoded.{written-reads, codes-within}
 use Rattle.format.specs.Fields.{dimensionsOf, rowsOf, metricAt}
 use Rattle.format.proofs.Heads.{bounds}
-use Rattle.format.proofs.First.{all-pass, each-passes}
-use Rattle.segment.specs.Record.{recordAt, recordOk}
+use Rattle.format.proofs.First.{all-pass}
+use Rattle.segment.specs.Record.{recordAt}
 use Rattle.geometry.specs.Cache.{cacheMagic, counted, inner, identity, rowLength, cacheHead, cacheBytes}
 use Rattle.geometry.specs.declared.Options.{Options}
 use Rattle.geometry.proofs.Parts.{length-head, length-cache, length-identity, magic-bytes}
@@ -39,33 +37,16 @@ use Rattle.geometry.proofs.Opens.{head-opens}
 use Rattle.manifest.specs.Check.{manifestNumber}
 use Rattle.manifest.proofs.Passed.{or-else, other-room}
 use Rattle.quantized_cache.specs.Size.{sizeOf, sizingOf, sizeNumber}
-use Rattle.quantized_cache.specs.Open.{rowStart, cachedOk, badRow, sealOk, contentRefusal, openNumber, openRefusal}
-use Rattle.rows.specs.Rows.{rowOf, rowsBytes, badRow as badRecord}
+use Rattle.quantized_cache.specs.Open.{rowStart, cachedAt, cachedOk, badRow, sealOk, contentRefusal, openNumber, openRefusal}
+use Rattle.rows.specs.Rows.{rowOf, joined, rowsBytes, badRow as badRecord}
 use Rattle.prepare.specs.Prepare.{prepareRefusal, cacheOf, cacheAfter}
 use Rattle.quantized_cache.proofs.Sizes.{sizing-in}
 use Rattle.quantized_cache.proofs.Opens.{lies, first-start}
-use Rattle.rows.proofs.Written.{length-rows, record-parts}
-use Rattle.prepare.proofs.Stored.{ready}
+use Rattle.rows.proofs.Written.{rows-valid}
+use Rattle.rows.proofs.Joined.{rest-of}
+use Rattle.prepare.proofs.Stored.{length-rows, ready}
 
 -- ---- the CRC-32
-
-step-lt : (c : ℕ) → c < 2 ^ 32 → step c < 2 ^ 32
-unfolding step
-step-lt c h = xor-lt 32 (c / 2) (c % 2 * 0xEDB88320) (omega arith) (omega arith)
-
-steps-lt : (n c : ℕ) → c < 2 ^ 32 → steps n c < 2 ^ 32
-unfolding steps
-steps-lt zero c h = h
-steps-lt (suc n) c h = steps-lt n (step c) (step-lt c h)
-
-update-lt : (c : ℕ) (s : List ℕ) → c < 2 ^ 32 → AllBytes s → update c s < 2 ^ 32
-unfolding update
-update-lt c [] h b = h
-update-lt c (x ∷ s) h b = update-lt (steps 8 (bitXor c x)) s (steps-lt 8 (bitXor c x) (xor-lt 32 c x h (omega (arith, b .0)))) (b .1)
-
-pub crc-lt : (s : List ℕ) → AllBytes s → crc32 s < 2 ^ 32
-unfolding crc32
-crc-lt s b = xor-lt 32 (update 0xFFFFFFFF s) 0xFFFFFFFF (update-lt 0xFFFFFFFF s (omega arith) b) (omega arith)
 
 seal-holds : (x : List ℕ) → AllBytes x → sealOk (x ++ bytes 4 (crc32 x)) ≡ true
 unfolding sealOk
@@ -80,20 +61,6 @@ seal-holds x b =
 -- ---- the rows
 
 module _ (m s : List ℕ) where
-  -- row n, and what follows it among the first k
-  record Rest (n k : ℕ) : Type 0 where
-    pub rest : List ℕ
-    pub is : rowsBytes 127 midpoints m s k ≡ rowsBytes 127 midpoints m s n ++ rowBytes (rowOf 127 midpoints m s n) ++ rest
-
-  rest-of : (k n : ℕ) → n < k → Rest n k
-  unfolding rowsBytes
-  rest-of zero n h = absurd (omega arith)
-  rest-of (suc k) n h =
-      ⊎-elim {C = Rest n (suc k)}
-      (λ (l : n < k). let r = rest-of k n l in
-      record { rest = r .rest ++ rowBytes (rowOf 127 midpoints m s k); is = ap (λ (x : List ℕ). x ++ rowBytes (rowOf 127 midpoints m s k)) (r .is) ∙ append-assoc (rowsBytes 127 midpoints m s n ++ rowBytes (rowOf 127 midpoints m s n)) (r .rest) (rowBytes (rowOf 127 midpoints m s k)) })
-      (λ (g : k ≤ n). let e : n ≡ k = omega arith in record { rest = []; is = rw e (sym (append-nil (rowsBytes 127 midpoints m s k ++ rowBytes (rowOf 127 midpoints m s k)))) }) (lt-or-le n k)
-
   -- a row between other bytes is read as the encoder's own
   row-read : (r : ℕ) (p q : List ℕ) → dimensionsOf m ≤ 4096
       → rowAt (dimensionsOf m) (p ++ rowBytes (rowOf 127 midpoints m s r) ++ q) (length p) ≡ rowOf 127 midpoints m s r
@@ -101,11 +68,6 @@ module _ (m s : List ℕ) where
       let v = floatsAt (dimensionsOf m) s (recordAt m r + 12) in
       let l = length-floats (dimensionsOf m) s (recordAt m r + 12) in
       ap (λ (n : ℕ). rowAt n (p ++ rowBytes (encode 127 midpoints v) ++ q) (length p)) (sym l) ∙ written-reads v p q (rw l h)
-
-  row-valid : (r : ℕ) → recordOk m s r ≡ true → validRow 127 (metricAt m) (rowOf 127 midpoints m s r) ≡ true
-  row-valid r k =
-      let at = recordAt m r + 12 in
-      encoded-valid (metricAt m) (dimensionsOf m) (floatsAt (dimensionsOf m) s at) (floats-fit (dimensionsOf m) s at) (record-parts m s r k .2)
 
   -- where row n of a cache with a front and a CRC-32 of 4 bytes starts
   start-is : (front n : ℕ) → n ≤ rowsOf m
@@ -123,13 +85,12 @@ module _ (m s : List ℕ) where
 
   -- a front, the rows and 4 bytes: row n is the encoder's own
   rows-read : (front t : List ℕ) → length t ≡ 4 → dimensionsOf m ≤ 4096 → (n : ℕ) → n < rowsOf m
-      → let cache = front ++ rowsBytes 127 midpoints m s (rowsOf m) ++ t in
-      rowAt (dimensionsOf m) cache (rowStart (length cache) (rowsOf m) (dimensionsOf m) n) ≡ rowOf 127 midpoints m s n
+      → cachedAt (rowsOf m) (dimensionsOf m) (front ++ rowsBytes 127 midpoints m s (rowsOf m) ++ t) n ≡ rowOf 127 midpoints m s n
   rows-read front t e h n i =
       let cache = front ++ rowsBytes 127 midpoints m s (rowsOf m) ++ t in
       let k = length-rows m s (rowsOf m) in
       let l : length cache ≡ length front + rowsOf m * rowLength (dimensionsOf m) + 4 = simp length-append (omega (arith, k, e)) in
-      let r = rest-of (rowsOf m) n i in
+      let r = rest-of (λ j. rowBytes (rowOf 127 midpoints m s j)) (rowsOf m) n i in
       let p = front ++ rowsBytes 127 midpoints m s n in
       let c : cache ≡ p ++ rowBytes (rowOf 127 midpoints m s n) ++ (r .rest ++ t) = rw (r .is) (simp append-assoc) in
       let a : rowStart (length cache) (rowsOf m) (dimensionsOf m) n ≡ length p =
@@ -138,12 +99,12 @@ module _ (m s : List ℕ) where
       ap (λ (z : ℕ). rowAt (dimensionsOf m) cache z) a ∙ ap (λ (x : List ℕ). rowAt (dimensionsOf m) x (length p)) c ∙ row-read n p (r .rest ++ t) h
 
   -- and where no record is bad, every row is valid
-  rows-valid : (front t : List ℕ) → length t ≡ 4 → dimensionsOf m ≤ 4096 → badRecord m s ≡ rowsOf m
+  rows-hold : (front t : List ℕ) → length t ≡ 4 → dimensionsOf m ≤ 4096 → badRecord m s ≡ rowsOf m
       → badRow (metricAt m) (rowsOf m) (dimensionsOf m) (front ++ rowsBytes 127 midpoints m s (rowsOf m) ++ t) ≡ rowsOf m
   unfolding cachedOk
-  rows-valid front t e h b =
+  rows-hold front t e h b =
       all-pass (cachedOk (metricAt m) (rowsOf m) (dimensionsOf m) (front ++ rowsBytes 127 midpoints m s (rowsOf m) ++ t)) (rowsOf m)
-      (λ n i. ap (validRow 127 (metricAt m)) (rows-read front t e h n i) ∙ row-valid n (each-passes (recordOk m s) (rowsOf m) n b i))
+      (λ n i. ap (validRow 127 (metricAt m)) (rows-read front t e h n i) ∙ rows-valid m s b n i)
 
 -- ---- all are bytes
 
@@ -166,7 +127,7 @@ row-bytes m s r =
     (codes-bytes (e .codes) (codes-within v))
 
 rows-bytes : (m s : List ℕ) (n : ℕ) → AllBytes (rowsBytes 127 midpoints m s n)
-unfolding rowsBytes
+unfolding joined
 rows-bytes m s zero = tt
 rows-bytes m s (suc n) = append-bytes (rowsBytes 127 midpoints m s n) (rowBytes (rowOf 127 midpoints m s n)) (rows-bytes m s n) (row-bytes m s n)
 
@@ -238,7 +199,7 @@ module _ (m : List ℕ) (expected room : ℕ) (s platform root : List ℕ) (o : 
       let r = ready m expected room s platform root o lent h in
       let b = bounds m (r .library .manifest .head) in
       let t = bytes 4 (crc32 content) in
-      let v = rows-valid m s (cacheHead 1 (identity platform root m)) t (length-bytes 4 (crc32 content)) (b .high) (r .records) in
+      let v = rows-hold m s (cacheHead 1 (identity platform root m)) t (length-bytes 4 (crc32 content)) (b .high) (r .records) in
       rw (parts, eq-eqb (badRow (metricAt m) (rowsOf m) (dimensionsOf m) (content ++ t)) (rowsOf m) v, seal-holds content a)
 
   -- document 01, Contracts: against "an opener refusing every cache" and "preparation that stores nothing"
@@ -248,18 +209,18 @@ module _ (m : List ℕ) (expected room : ℕ) (s platform root : List ℕ) (o : 
   prepared-opens a p r other f =
       let i = identity platform root m in
       let b = append-bytes (cacheHead 1 i) (rowsBytes 127 midpoints m s (rowsOf m)) (head-bytes 1 i (identity-bytes platform root m p r a)) (rows-bytes m s (rowsOf m)) in
-      rw (eq-eqb (openNumber m expected other (cacheOf m s platform root) platform root o) 0 (number other f)) (rows-pass b)
+      goes-on (openNumber m expected other (cacheOf m s platform root) platform root o) (contentRefusal (metricAt m) (rowsOf m) (dimensionsOf m) (cacheOf m s platform root)) (number other f) ∙ rows-pass b
 
   -- the slice of the cache's size, as preparing leaves it
   pub prepared-slice : (d : List ℕ) → take (sizeOf m platform root) (cacheAfter m s platform root (prepareRefusal m expected room s platform root o lent) d) ≡ cacheOf m s platform root
   unfolding cacheAfter
   prepared-slice d =
-      rw (eq-eqb (prepareRefusal m expected room s platform root o lent .number) 0 h)
+      rw (is-done (prepareRefusal m expected room s platform root o lent) (cacheOf m s platform root ++ drop (sizeOf m platform root) d) d h)
       (take-at (cacheOf m s platform root) (drop (sizeOf m platform root) d) (sizeOf m platform root) cache-long)
 
   -- and its rows are the encoder's own
   pub prepared-rows : (n : ℕ) → n < rowsOf m
-      → rowAt (dimensionsOf m) (cacheOf m s platform root) (rowStart (length (cacheOf m s platform root)) (rowsOf m) (dimensionsOf m) n) ≡ rowOf 127 midpoints m s n
+      → cachedAt (rowsOf m) (dimensionsOf m) (cacheOf m s platform root) n ≡ rowOf 127 midpoints m s n
   prepared-rows n i =
       let b = bounds m (ready m expected room s platform root o lent h .library .manifest .head) in
       rw parts (rows-read m s (cacheHead 1 (identity platform root m)) (bytes 4 (crc32 content)) (length-bytes 4 (crc32 content)) (b .high) n i)

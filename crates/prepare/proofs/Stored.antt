@@ -1,41 +1,40 @@
 -- Head, rows and CRC-32 stored one after the other are the cache. Assumes nothing.
-use mathlib.Core.Path.{_≡_, ap, _∙_}
-use mathlib.Core.Bool.{cond}
+use mathlib.Core.Path.{_≡_, sym, ap, _∙_}
 use mathlib.Core.List.{List, _++_}
-use Prim.Native.Nat.{ℕ, suc, _+_, _-_, _*_, _≤_}
+use Prim.Native.Nat.{ℕ, _+_, _-_, _*_, _≤_}
 use native.Mathlib.Omega.{arith}
-use lib.Dec.{leb, eqb}
+use lib.Dec.{leb}
 use lib.ListN.{length, take, drop, length-append}
 use lib.Seq.{take-at}
-use borrow.Author.Tests.{leb-true, eqb-true, eqb-false, eq-eqb, ne-eqb}
+use borrow.Author.Tests.{leb-true}
 use Rattle.le.specs.Le.{bytes, paste}
 use Rattle.le.proofs.LeLaws.{length-bytes}
 use Rattle.le.proofs.Pastes.{paste-first, paste-next}
 use Rattle.crc32.specs.Crc.{crc32}
-use Rattle.config.specs.Refusal.{none, refused}
+use Rattle.config.specs.Refusal.{refused}
+use Rattle.config.proofs.Refusals.{not-zero, held-number, goes-on, stops, none-refused, is-other}
 use Rattle.quantization.specs.Encoder.{midpoints}
 use Rattle.format.specs.Fields.{rowsOf, dimensionsOf}
 use Rattle.geometry.specs.Cache.{identity, identityLength, cacheHead, cacheBytes}
 use Rattle.geometry.proofs.Parts.{length-identity, length-head}
 use Rattle.quantized_cache.specs.Size.{sizeOf, sizeNumber}
 use Rattle.geometry.specs.declared.Options.{Options}
-use Rattle.le.proofs.Chain.{by}
 use Rattle.quantized_cache.proofs.Sizes.{Passed, passed}
-use Rattle.segment.proofs.Library.{held-number}
-use Rattle.rows.specs.Rows.{rowsBytes, badRow}
-use Rattle.rows.proofs.Written.{length-rows}
-use Rattle.prepare.specs.Prepare.{lateRefusal, prepareRefusal, cacheOf, cacheAfter, preparedBy}
-
-not-zero : {n : ℕ} → suc n ≡ 0 → ⊥
-not-zero e = absurd (omega arith)
+use Rattle.quantization.specs.View.{rowBytes}
+use Rattle.rows.specs.Rows.{rowOf, rowsBytes, badRow, recordsRefusal}
+use Rattle.rows.proofs.Written.{length-own, none-bad}
+use Rattle.rows.proofs.Joined.{length-joined}
+use Rattle.prepare.specs.Prepare.{lateRefusal, prepareRefusal, cacheOf, cacheAfter, infoOf, noInfo, preparedBy}
 
 -- what is not refused after sizing
 pub late-passed : (m s : List ℕ) (size room : ℕ) → lateRefusal m s size room .number ≡ 0 → (size ≤ room) × (badRow m s ≡ rowsOf m)
 unfolding lateRefusal
 late-passed m s size room h =
-    let a = held-number (leb size room) (cond (eqb (badRow m s) (rowsOf m)) none (refused 5 (badRow m s))) (refused 11 0) not-zero h in
-    let b = held-number (eqb (badRow m s) (rowsOf m)) none (refused 5 (badRow m s)) not-zero (a .1) in
-    (leb-true size room (a .0), eqb-true (badRow m s) (rowsOf m) (b .0))
+    let a = held-number (leb size room) (recordsRefusal m s) (refused 11 0) not-zero h in
+    (leb-true size room (a .0), none-bad m s (a .1))
+
+pub length-rows : (m s : List ℕ) (n : ℕ) → length (rowsBytes 127 midpoints m s n) ≡ n * (dimensionsOf m + 16)
+length-rows m s n = length-joined (λ r. rowBytes (rowOf 127 midpoints m s r)) (dimensionsOf m + 16) (length-own m s) n
 
 module _ (m s platform root : List ℕ) where
   abbrev head : List ℕ
@@ -86,19 +85,19 @@ module _ (m : List ℕ) (expected scratch : ℕ) (s platform root : List ℕ) (o
 
   pub early : (number ≡ 0 → ⊥) → prepareRefusal m expected scratch s platform root o room ≡ refused number 0
   unfolding prepareRefusal
-  early h = rw (ne-eqb number 0 h)
+  early h = stops number (lateRefusal m s (sizeOf m platform root) room) h
 
   pub late : number ≡ 0 → prepareRefusal m expected scratch s platform root o room ≡ lateRefusal m s (sizeOf m platform root) room
   unfolding prepareRefusal
-  late h = rw (eq-eqb number 0 h)
+  late h = goes-on number (lateRefusal m s (sizeOf m platform root) room) h
 
 pub refused-answer : (m : List ℕ) (size other n : ℕ) → (n ≡ 0 → ⊥) → preparedBy m size (refused n 0) ≡ preparedBy m other (refused n 0)
 unfolding preparedBy
-refused-answer m size other n h = rw (ne-eqb n 0 h)
+refused-answer m size other n h = rw (is-other (refused n 0) (infoOf m size) noInfo h, is-other (refused n 0) (infoOf m other) noInfo h)
 
 pub refused-cache : (m s platform root d : List ℕ) (n : ℕ) → (n ≡ 0 → ⊥) → d ≡ cacheAfter m s platform root (refused n 0) d
 unfolding cacheAfter
-refused-cache m s platform root d n h = rw (ne-eqb n 0 h)
+refused-cache m s platform root d n h = sym (is-other (refused n 0) (cacheOf m s platform root ++ drop (sizeOf m platform root) d) d h)
 
 -- what is prepared has passed all tests
 pub record Ready (m : List ℕ) (expected room : ℕ) (s platform root : List ℕ) (o : Options) (lent : ℕ) : Type 0 where
@@ -111,9 +110,6 @@ pub ready : (m : List ℕ) (expected room : ℕ) (s platform root : List ℕ) (o
     → prepareRefusal m expected room s platform root o lent .number ≡ 0 → Ready m expected room s platform root o lent
 unfolding prepareRefusal
 ready m expected room s platform root o lent h =
-    let n = sizeNumber m expected room platform root o in
-    by (eqb n 0)
-    (λ e. let z = eqb-true n 0 e in
-    let l = late-passed m s (sizeOf m platform root) lent (rw e at h) in
-    record { number = z; library = passed m expected room platform root o z; fits = l .0; records = l .1 })
-    (λ e. let f : n ≡ 0 = rw e at h in absurd (eqb-false n 0 e f))
+    let n = none-refused (sizeNumber m expected room platform root o) (lateRefusal m s (sizeOf m platform root) lent) h in
+    let l = late-passed m s (sizeOf m platform root) lent (n .1) in
+    record { number = n .0; library = passed m expected room platform root o (n .0); fits = l .0; records = l .1 }

@@ -3,27 +3,26 @@
 use mathlib.Core.Bool.{cond}
 use mathlib.Core.List.{List, _++_}
 use Prim.Native.Nat.{ℕ, _*_}
-use lib.Dec.{leb, eqb}
+use lib.Dec.{leb}
 use lib.ListN.{drop}
-use Rattle.config.specs.Refusal.{none, refused}
+use Rattle.config.specs.Refusal.{refused, refusedOr, unlessRefused}
 use Rattle.config.specs.declared.Refusal.{Refusal}
 use Rattle.quantization.specs.Encoder.{midpoints}
 use Rattle.format.specs.Fields.{generationOf, sequenceOf, rowsOf, dimensionsOf}
 use Rattle.geometry.specs.Cache.{identity, cacheBytes}
 use Rattle.geometry.specs.declared.Options.{Options}
 use Rattle.quantized_cache.specs.Size.{sizeOf, sizeNumber}
-use Rattle.rows.specs.Rows.{rowsBytes, badRow}
+use Rattle.rows.specs.Rows.{rowsBytes, recordsRefusal}
 use Rattle.prepare.specs.declared.Info.{Info}
 use Rattle.prepare.specs.declared.Prepared.{Prepared}
 
 -- the refusals after sizing's: `room` is the length of the cache lent
 unfoldable pub lateRefusal : List ℕ → List ℕ → ℕ → ℕ → Refusal
-lateRefusal m s size room = cond (leb size room) (cond (eqb (badRow m s) (rowsOf m)) none (refused 5 (badRow m s))) (refused 11 0)
+lateRefusal m s size room = cond (leb size room) (recordsRefusal m s) (refused 11 0)
 
 unfoldable pub prepareRefusal : List ℕ → ℕ → ℕ → List ℕ → List ℕ → List ℕ → Options → ℕ → Refusal
 prepareRefusal m expected scratch s platform root o room =
-    cond (eqb (sizeNumber m expected scratch platform root o) 0) (lateRefusal m s (sizeOf m platform root) room)
-    (refused (sizeNumber m expected scratch platform root o) 0)
+    refusedOr (sizeNumber m expected scratch platform root o) (lateRefusal m s (sizeOf m platform root) room)
 
 -- the cache of a library: version 1, and the rows of the encoder with 127 levels
 unfoldable pub cacheOf : List ℕ → List ℕ → List ℕ → List ℕ → List ℕ
@@ -31,7 +30,7 @@ cacheOf m s platform root = cacheBytes 1 (identity platform root m) (rowsBytes 1
 
 -- "bytes past the size stay"; on a refusal all of them
 unfoldable pub cacheAfter : List ℕ → List ℕ → List ℕ → List ℕ → Refusal → List ℕ → List ℕ
-cacheAfter m s platform root refusal d = cond (eqb (refusal .number) 0) (cacheOf m s platform root ++ drop (sizeOf m platform root) d) d
+cacheAfter m s platform root refusal d = unlessRefused refusal (cacheOf m s platform root ++ drop (sizeOf m platform root) d) d
 
 -- the Rust's `QuantizedCacheInfo`; "All counts are then 0"
 abbrev pub infoOf : List ℕ → ℕ → Info
@@ -48,4 +47,4 @@ abbrev pub noInfo : Info
 noInfo = record { generation = 0; sequence = 0; «cache_bytes» = 0; «code_bytes» = 0; «parameter_bytes» = 0 }
 
 unfoldable pub preparedBy : List ℕ → ℕ → Refusal → Prepared
-preparedBy m size refusal = record { refusal = refusal; info = cond (eqb (refusal .number) 0) (infoOf m size) noInfo }
+preparedBy m size refusal = record { refusal = refusal; info = unlessRefused refusal (infoOf m size) noInfo }

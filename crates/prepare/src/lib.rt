@@ -45,17 +45,7 @@ fn late_refusal(m: &[u8], s: &[u8], size: usize, room: usize) -> Refusal
     }
     let layout = format::read_layout(m);
     let starts = segment::starts(m, layout);
-    let bad = rows::bad_row(m, layout, format::metric(m), &starts, s);
-    if bad < layout.rows {
-        return Refusal {
-            number: 5,
-            place: bad as u64,
-        };
-    }
-    Refusal {
-        number: 0,
-        place: 0,
-    }
+    rows::records_refusal(m, layout, &starts, s)
 }
 
 // The cache's CRC-32, behind all else.

@@ -13,7 +13,7 @@ use Rattle.config.specs.declared.Metric.{Metric}
 use Rattle.codes.specs.Codes.{squares, within}
 use Rattle.quantization.specs.View.{rowAt, rowTest, validRow}
 use Rattle.format.specs.Fields.{dimensionsOf, rowsOf}
-use Rattle.format.proofs.Heads.{not-zero}
+use Rattle.config.proofs.Refusals.{not-zero}
 use Rattle.manifest.proofs.Passed.{or-else}
 use Rattle.geometry.specs.Cache.{identity, rowLength}
 use Rattle.geometry.specs.Open.{headOk, openNumber as headNumber}

@@ -8,10 +8,10 @@ use lib.Dec.{eqb}
 use lib.ListN.{length, take}
 use Rattle.le.specs.Le.{leAt}
 use Rattle.crc32.specs.Crc.{crc32}
-use Rattle.config.specs.Refusal.{none, refused}
+use Rattle.config.specs.Refusal.{none, refused, refusedOr, unlessRefused}
 use Rattle.config.specs.declared.Metric.{Metric}
 use Rattle.config.specs.declared.Refusal.{Refusal}
-use Rattle.quantization.specs.View.{rowAt, validRow}
+use Rattle.quantization.specs.View.{View, rowAt, validRow}
 use Rattle.format.specs.Order.{orElse, firstBad}
 use Rattle.format.specs.Fields.{dimensionsOf, rowsOf, metricAt}
 use Rattle.format.specs.Head.{headAt, zeroHead}
@@ -26,9 +26,13 @@ use Rattle.quantized_cache.specs.declared.State.{State}
 abbrev pub rowStart : ℕ → ℕ → ℕ → ℕ → ℕ
 rowStart size rows dimensions n = size - 4 - (rows - n) * rowLength dimensions
 
+-- row n of a cache, as a search sees it
+abbrev pub cachedAt : ℕ → ℕ → List ℕ → ℕ → View
+cachedAt rows dimensions cache n = rowAt dimensions cache (rowStart (length cache) rows dimensions n)
+
 -- 14: document 01, The arithmetic, Row valid
 unfoldable pub cachedOk : Metric → ℕ → ℕ → List ℕ → ℕ → Bool
-cachedOk metric rows dimensions cache n = validRow 127 metric (rowAt dimensions cache (rowStart (length cache) rows dimensions n))
+cachedOk metric rows dimensions cache n = validRow 127 metric (cachedAt rows dimensions cache n)
 
 -- the lowest invalid row, or the row count
 abbrev pub badRow : Metric → ℕ → ℕ → List ℕ → ℕ
@@ -50,8 +54,7 @@ openNumber m expected room cache platform root o =
 
 unfoldable pub openRefusal : List ℕ → ℕ → ℕ → List ℕ → List ℕ → List ℕ → Options → Refusal
 openRefusal m expected room cache platform root o =
-    cond (eqb (openNumber m expected room cache platform root o) 0) (contentRefusal (metricAt m) (rowsOf m) (dimensionsOf m) cache)
-    (refused (openNumber m expected room cache platform root o) 0)
+    refusedOr (openNumber m expected room cache platform root o) (contentRefusal (metricAt m) (rowsOf m) (dimensionsOf m) cache)
 
 -- the state is the head and the cache's length (readings R2); "the state returned by a refused check .. is all zero" (R23)
 abbrev pub stateOf : List ℕ → List ℕ → State
@@ -61,7 +64,7 @@ abbrev pub zeroState : State
 zeroState = record { head = zeroHead; cache = 0 }
 
 unfoldable pub openedBy : List ℕ → List ℕ → Refusal → Opened
-openedBy m cache refusal = record { refusal = refusal; state = cond (eqb (refusal .number) 0) (stateOf m cache) zeroState }
+openedBy m cache refusal = record { refusal = refusal; state = unlessRefused refusal (stateOf m cache) zeroState }
 
 abbrev pub opened : List ℕ → ℕ → ℕ → List ℕ → List ℕ → List ℕ → Options → Opened
 opened m expected room cache platform root o = openedBy m cache (openRefusal m expected room cache platform root o)

@@ -1,14 +1,16 @@
 -- Resident building (document 01, What each place turns away: "Preparing, building and opening first test the manifest anew", "Resident
 -- building: 8, 11, 5"; "Answer slices, resident slices and the cache are untouched" by a refusal; places: "the row number for .. 5 at a
 -- record .. otherwise 0").
-use mathlib.Core.Bool.{Bool, cond, _&&_}
-use mathlib.Core.List.{List, [], _∷_, _++_}
-use Prim.Native.Nat.{ℕ, zero, suc, _*_}
-use lib.Dec.{leb, eqb}
-use lib.IntN.{ℤ}
-use lib.ListN.{drop}
+use mathlib.Core.Bool.{Bool, _&&_}
+use mathlib.Core.List.{List, [], _∷_}
+use Prim.Native.Nat.{ℕ, _*_}
+use lib.Dec.{leb}
+use lib.IntN.{ℤ, pos}
+use lib.ListN.{getD}
 use lib.Ieee.{Float}
-use Rattle.config.specs.Refusal.{none, refused}
+use Rattle.le.specs.Le.{paste}
+use Rattle.float.specs.Values.{zero as nought}
+use Rattle.config.specs.Refusal.{refusedOr, unlessRefused}
 use Rattle.config.specs.declared.Refusal.{Refusal}
 use Rattle.format.specs.Order.{unless}
 use Rattle.format.specs.Fields.{dimensionsOf, rowsOf}
@@ -18,7 +20,8 @@ use Rattle.geometry.specs.Sizing.{codesOk}
 use Rattle.manifest.specs.Check.{manifestNumber}
 use Rattle.quantization.specs.View.{View}
 use Rattle.quantization.specs.Encoder.{midpoints}
-use Rattle.rows.specs.Rows.{rowOf, badRow}
+use Rattle.codes.specs.Codes.{part}
+use Rattle.rows.specs.Rows.{rowOf, joined, recordsRefusal}
 use Rattle.resident.specs.declared.State.{State}
 use Rattle.resident.specs.declared.Built.{Built}
 
@@ -32,21 +35,14 @@ roomNumber rows dimensions codes scales norms =
     unless (codesOk rows dimensions) 8
     (unless (roomOk rows dimensions codes scales norms) 11 0)
 
--- "5 for the lowest bad row"
-unfoldable pub recordsRefusal : List ℕ → List ℕ → Refusal
-recordsRefusal m s = cond (eqb (badRow m s) (rowsOf m)) none (refused 5 (badRow m s))
-
 -- 8, 11, 5
 unfoldable pub plannedRefusal : List ℕ → List ℕ → ℕ → ℕ → ℕ → Refusal
 plannedRefusal m s codes scales norms =
-    let number = roomNumber (rowsOf m) (dimensionsOf m) codes scales norms in
-    cond (eqb number 0) (recordsRefusal m s) (refused number 0)
+    refusedOr (roomNumber (rowsOf m) (dimensionsOf m) codes scales norms) (recordsRefusal m s)
 
 -- `room` is the length of the scratch
 unfoldable pub buildRefusal : List ℕ → ℕ → ℕ → List ℕ → ℕ → ℕ → ℕ → Refusal
-buildRefusal m expected room s codes scales norms =
-    let number = manifestNumber m expected room in
-    cond (eqb number 0) (plannedRefusal m s codes scales norms) (refused number 0)
+buildRefusal m expected room s codes scales norms = refusedOr (manifestNumber m expected room) (plannedRefusal m s codes scales norms)
 
 -- readings R2: the accepted head and the lengths as lent; R23: "the state returned by a refused .. building is all zero"
 abbrev pub zeroState : State
@@ -56,7 +52,7 @@ unfoldable pub answered : Head → Refusal → ℕ → ℕ → ℕ → Built
 answered head refusal codes scales norms =
     record {
       refusal = refusal;
-      state = cond (eqb (refusal .number) 0) (record { head = head; codes = codes; scales = scales; norms = norms }) zeroState;
+      state = unlessRefused refusal (record { head = head; codes = codes; scales = scales; norms = norms }) zeroState;
     }
 
 abbrev pub builtBy : List ℕ → Refusal → ℕ → ℕ → ℕ → Built
@@ -66,26 +62,18 @@ builtBy m refusal codes scales norms = answered (headAt m) refusal codes scales 
 unfoldable pub residentRow : List ℕ → List ℕ → ℕ → View
 residentRow m s r = rowOf 127 midpoints m s r
 
--- f 0, f 1 .. one after the other, n of them
-unfoldable pub joined : {A : Type 0} → (ℕ → List A) → ℕ → List A
-joined f zero = []
-joined f (suc n) = joined f n ++ f n
-
 -- the codes, scales and norms of the first n rows, and what stood past them (readings R2: "Elements past the rows are neither written nor
 -- tested")
 abbrev pub codesUpto : List ℕ → List ℕ → ℕ → List ℤ → List ℤ
-codesUpto m s n d = joined (λ r. residentRow m s r .codes) n ++ drop (n * dimensionsOf m) d
+codesUpto m s n d = paste d 0 (joined (λ r. residentRow m s r .codes) n)
 
 abbrev pub scalesUpto : List ℕ → List ℕ → ℕ → List Float → List Float
-scalesUpto m s n d = joined (λ r. residentRow m s r .scale ∷ []) n ++ drop n d
+scalesUpto m s n d = paste d 0 (joined (λ r. residentRow m s r .scale ∷ []) n)
 
 abbrev pub normsUpto : List ℕ → List ℕ → ℕ → List ℤ → List ℤ
-normsUpto m s n d = joined (λ r. residentRow m s r .norm ∷ []) n ++ drop n d
+normsUpto m s n d = paste d 0 (joined (λ r. residentRow m s r .norm ∷ []) n)
 
 -- what building leaves of a lent slice: all rows where nothing is refused, else what was lent
-abbrev pub unlessRefused : {A : Type 0} → Refusal → List A → List A → List A
-unlessRefused refusal filled lent = cond (eqb (refusal .number) 0) filled lent
-
 abbrev pub codesAfter : List ℕ → List ℕ → Refusal → List ℤ → List ℤ
 codesAfter m s refusal d = unlessRefused refusal (codesUpto m s (rowsOf m) d) d
 
@@ -94,3 +82,7 @@ scalesAfter m s refusal d = unlessRefused refusal (scalesUpto m s (rowsOf m) d) 
 
 abbrev pub normsAfter : List ℕ → List ℕ → Refusal → List ℤ → List ℤ
 normsAfter m s refusal d = unlessRefused refusal (normsUpto m s (rowsOf m) d) d
+
+-- row n of resident slices, as a search sees it
+abbrev pub residentAt : ℕ → List ℤ → List Float → List ℤ → ℕ → View
+residentAt dimensions codes scales norms n = record { scale = getD scales n nought; norm = getD norms n (pos 0); codes = part dimensions codes (n * dimensions) }

@@ -11,7 +11,7 @@ ghost use Rattle.manifest.specs.Check.{scratchAfter};
 ghost use Rattle.segment.specs.Record.{Starts};
 ghost use Rattle.quantization.specs.Encoder.{midpoints};
 ghost use Rattle.rows.specs.Rows.{badRow};
-ghost use Rattle.resident.specs.Build.{roomNumber, recordsRefusal, plannedRefusal, buildRefusal, answered, builtBy, codesUpto, scalesUpto, normsUpto, codesAfter, scalesAfter, normsAfter};
+ghost use Rattle.resident.specs.Build.{roomNumber, plannedRefusal, buildRefusal, answered, builtBy, codesUpto, scalesUpto, normsUpto, codesAfter, scalesAfter, normsAfter};
 use config::Refusal;
 use format::Head;
 use format::Layout;
@@ -47,23 +47,6 @@ fn room_number(rows: usize, dimensions: usize, codes: usize, scales: usize, norm
     11
 }
 
-fn records_refusal(m: &[u8], layout: Layout, starts: &[u64; 1024], s: &[u8]) -> Refusal
-    requires { ⌜ (headNumber (now m) ≡ 0) × Placed (now m) layout × (rowsOk (now m) ≡ true) × Starts (now m) (now starts) ⌝ }
-    ensures { λ r. ⌜ r ≡ recordsRefusal (now (m .entry)) (now (s .entry)) ⌝ }
-{
-    let bad = rows::bad_row(m, layout, format::metric(m), starts, s);
-    if bad != layout.rows {
-        return Refusal {
-            number: 5,
-            place: bad as u64,
-        };
-    }
-    Refusal {
-        number: 0,
-        place: 0,
-    }
-}
-
 // Of an accepted manifest and the lengths of the slices.
 fn plan(m: &[u8], s: &[u8], codes: usize, scales: usize, norms: usize) -> Refusal
     requires { ⌜ (headNumber (now m) ≡ 0) × (rowsOk (now m) ≡ true) ⌝ }
@@ -78,7 +61,7 @@ fn plan(m: &[u8], s: &[u8], codes: usize, scales: usize, norms: usize) -> Refusa
         };
     }
     let starts = segment::starts(m, layout);
-    records_refusal(m, layout, &starts, s)
+    rows::records_refusal(m, layout, &starts, s)
 }
 
 // ---- The rows.
@@ -168,9 +151,9 @@ pub fn build(
         return answer(head, first, codes.len(), scales.len(), norms.len());
     }
     let refusal = plan(manifest, segments, codes.len(), scales.len(), norms.len());
-    if refusal.number == 0 {
-        store(manifest, segments, codes, scales, norms);
+    if refusal.number != 0 {
         return answer(head, refusal, codes.len(), scales.len(), norms.len());
     }
+    store(manifest, segments, codes, scales, norms);
     answer(head, refusal, codes.len(), scales.len(), norms.len())
 }

@@ -1,2 +1,3 @@
 -- Laws of a library's rows.
+pub mod Joined
 pub mod Written

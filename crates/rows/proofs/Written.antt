@@ -1,32 +1,29 @@
--- Rows written one after the other. Assumes nothing.
-use mathlib.Core.Path.{_≡_, refl}
+-- What a record that passes gives the encoder, and what the encoder makes of it. Assumes nothing.
+use mathlib.Core.Path.{_≡_}
 use mathlib.Core.Bool.{true, _&&_}
-use mathlib.Core.List.{List, [], _++_}
-use Prim.Native.Nat.{ℕ, zero, suc, _+_, _*_, _≤_, _<_}
-use native.Mathlib.Nat.{mul-le-mul-right, suc-mul}
-use native.Mathlib.Numerals.{add-one}
+use mathlib.Core.List.{List}
+use Prim.Native.Nat.{ℕ, _+_, _*_, _≤_, _<_}
 use native.Mathlib.Omega.{arith}
 use lib.Dec.{leb, eqb}
-use lib.ListN.{length, take, drop, length-append}
-use borrow.Author.Tests.{leb-true}
-use Rattle.le.specs.Le.{paste, leAt}
-use Rattle.le.proofs.Pastes.{paste-next}
+use lib.ListN.{length, take, drop}
+use borrow.Author.Tests.{leb-true, eqb-true}
+use Rattle.le.specs.Le.{leAt}
 use Rattle.utf8.specs.Utf8.{valid}
+use Rattle.config.specs.Refusal.{none, refused}
 use Rattle.config.specs.Vector.{finites, validVector}
+use Rattle.config.proofs.Refusals.{not-zero, held-number}
 use Rattle.config.proofs.Vectors.{length-floats}
-use Rattle.config.proofs.Coordinates.{valid-parts}
-use Rattle.quantization.specs.View.{rowBytes}
+use Rattle.config.proofs.Coordinates.{valid-parts, floats-fit}
+use Rattle.quantization.specs.View.{rowBytes, validRow}
 use Rattle.quantization.specs.Encoder.{midpoints}
 use Rattle.quantization.proofs.Rows.{length-row}
-use Rattle.quantization.proofs.Encoded.{encoded-length}
-use Rattle.format.specs.Fields.{dimensionsOf, metricAt, recordLength, idAt, metadataAt}
+use Rattle.quantization.proofs.Encoded.{encoded-length, encoded-valid}
+use Rattle.format.specs.Fields.{dimensionsOf, rowsOf, metricAt, recordLength, idAt, metadataAt}
+use Rattle.format.proofs.First.{each-passes, all-pass}
 use Rattle.format.proofs.Heads.{both}
 use Rattle.segment.specs.Record.{recordAt, partsOk, recordOk}
-use Rattle.rows.specs.Rows.{vectorOf, rowOf, rowsBytes}
-
--- the place behind row n, and that it is no later than the place behind the last
-pub row-ends : (n k rows : ℕ) → n < rows → n * k + k ≤ rows * k
-row-ends n k rows h = rw (← suc-mul n k) (mul-le-mul-right k h)
+use Rattle.rows.specs.Rows.{vectorOf, rowOf, badRow, recordsRefusal}
+use borrow.Author.Tests.{eq-eqb}
 
 module _ (m s : List ℕ) where
   pub length-own : (n : ℕ) → length (rowBytes (rowOf 127 midpoints m s n)) ≡ dimensionsOf m + 16
@@ -37,35 +34,34 @@ module _ (m s : List ℕ) where
       let g = length-floats (dimensionsOf m) s (recordAt m n + 12) in
       omega (arith, e, f, g)
 
-  pub length-rows : (n : ℕ) → length (rowsBytes 127 midpoints m s n) ≡ n * (dimensionsOf m + 16)
-  unfolding rowsBytes
-  length-rows zero = omega arith
-  length-rows (suc n) =
-      let h = length-rows n in
-      let o = length-own n in
-      let k = suc-mul n (dimensionsOf m + 16) in
-      simp length-append (omega (arith, h, o, k))
+  pub record Good (r : ℕ) : Type 0 where
+    pub inside : recordAt m r + 12 + 4 * dimensionsOf m ≤ length s
+    pub fine : finites (vectorOf m s r) ≡ true
+    pub vector : validVector (metricAt m) (dimensionsOf m) (vectorOf m s r) ≡ true
 
-  more : (n : ℕ) → rowsBytes 127 midpoints m s (n + 1) ≡ rowsBytes 127 midpoints m s n ++ rowBytes (rowOf 127 midpoints m s n)
-  unfolding rowsBytes
-  more n = rw (add-one n)
-
-  pub no-rows : rowsBytes 127 midpoints m s 0 ≡ []
-  unfolding rowsBytes
-  no-rows = refl
-
-  -- one row more
-  pub put-next : (d : List ℕ) (at n from : ℕ) → from ≡ at + n * (dimensionsOf m + 16) → from ≤ length d
-      → paste (paste d at (rowsBytes 127 midpoints m s n)) from (rowBytes (rowOf 127 midpoints m s n)) ≡ paste d at (rowsBytes 127 midpoints m s (n + 1))
-  put-next d at n from e h =
-      rw (more n) (paste-next d at (rowsBytes 127 midpoints m s n) (rowBytes (rowOf 127 midpoints m s n)) from (let l = length-rows n in omega (arith, l, e)) h)
-
-  -- what a record that passes gives the encoder
-  pub record-parts : (r : ℕ) → recordOk m s r ≡ true → (recordAt m r + recordLength m r ≤ length s) × (finites (vectorOf m s r) ≡ true) × (validVector (metricAt m) (dimensionsOf m) (vectorOf m s r) ≡ true)
-  unfolding recordOk partsOk
-  record-parts r h =
+  pub good : (r : ℕ) → recordOk m s r ≡ true → Good r
+  unfolding recordOk partsOk recordLength
+  good r h =
       let a = both {a = leb (recordAt m r + recordLength m r) (length s)} h in
       let b = both {a = eqb (leAt 8 s (recordAt m r)) (idAt m r) && eqb (leAt 4 s (recordAt m r + 8)) (metadataAt m r) && validVector (metricAt m) (dimensionsOf m) (vectorOf m s r)}
       {b = valid (take (metadataAt m r) (drop (recordAt m r + 12 + 4 * dimensionsOf m) s))} (a .1) in
       let c = both {a = eqb (leAt 8 s (recordAt m r)) (idAt m r) && eqb (leAt 4 s (recordAt m r + 8)) (metadataAt m r)} (b .0) in
-      (leb-true (recordAt m r + recordLength m r) (length s) (a .0), valid-parts (metricAt m) (dimensionsOf m) (vectorOf m s r) (c .1) .1, c .1)
+      let l = leb-true (recordAt m r + recordLength m r) (length s) (a .0) in
+      record { inside = omega (arith, l); fine = valid-parts (metricAt m) (dimensionsOf m) (vectorOf m s r) (c .1) .1; vector = c .1 }
+
+  -- its row passes the row test
+  pub row-valid : (r : ℕ) → recordOk m s r ≡ true → validRow 127 (metricAt m) (rowOf 127 midpoints m s r) ≡ true
+  row-valid r h = encoded-valid (metricAt m) (dimensionsOf m) (vectorOf m s r) (floats-fit (dimensionsOf m) s (recordAt m r + 12)) (good r h .vector)
+
+  -- ---- 5
+  pub none-bad : recordsRefusal m s .number ≡ 0 → badRow m s ≡ rowsOf m
+  unfolding recordsRefusal
+  none-bad h = eqb-true (badRow m s) (rowsOf m) (held-number (eqb (badRow m s) (rowsOf m)) none (refused 5 (badRow m s)) not-zero h .0)
+
+  pub all-good : ((r : ℕ) → r < rowsOf m → recordOk m s r ≡ true) → recordsRefusal m s ≡ none
+  unfolding recordsRefusal
+  all-good h = rw (eq-eqb (badRow m s) (rowsOf m) (all-pass (recordOk m s) (rowsOf m) h))
+
+  -- where no record fails, each row passes the row test
+  pub rows-valid : badRow m s ≡ rowsOf m → (r : ℕ) → r < rowsOf m → validRow 127 (metricAt m) (rowOf 127 midpoints m s r) ≡ true
+  rows-valid h r l = row-valid r (each-passes (recordOk m s) (rowsOf m) r h l)

@@ -1,8 +1,12 @@
 -- The encoder's own row of each record, over the levels and the midpoints (document 01, The arithmetic, Encoder; The report: "Written and
 -- built by one encoder: from the records lent").
+use mathlib.Core.Bool.{cond}
 use mathlib.Core.List.{List, [], _++_}
 use Prim.Native.Nat.{ℕ, zero, suc, _+_}
+use lib.Dec.{eqb}
 use lib.Ieee.{Float}
+use Rattle.config.specs.Refusal.{none, refused}
+use Rattle.config.specs.declared.Refusal.{Refusal}
 use Rattle.config.specs.Vector.{floatsAt}
 use Rattle.quantization.specs.View.{View, rowBytes}
 use Rattle.quantization.specs.Encoder.{encode}
@@ -17,11 +21,19 @@ vectorOf m s r = floatsAt (dimensionsOf m) s (recordAt m r + 12)
 abbrev pub rowOf : ℕ → List Float → List ℕ → List ℕ → ℕ → View
 rowOf levels mids m s r = encode levels mids (vectorOf m s r)
 
--- the first n rows as they stand in a cache (Layouts, Cache: "identity, rows, CRC-32")
-unfoldable pub rowsBytes : ℕ → List Float → List ℕ → List ℕ → ℕ → List ℕ
-rowsBytes levels mids m s zero = []
-rowsBytes levels mids m s (suc n) = rowsBytes levels mids m s n ++ rowBytes (rowOf levels mids m s n)
+-- f 0, f 1 .. one after the other, n of them
+unfoldable pub joined : {A : Type 0} → (ℕ → List A) → ℕ → List A
+joined f zero = []
+joined f (suc n) = joined f n ++ f n
 
--- "5 for the lowest bad row", or the row count (What each place turns away, preparing and building)
+-- the first n rows as they stand in a cache (Layouts, Cache: "identity, rows, CRC-32")
+abbrev pub rowsBytes : ℕ → List Float → List ℕ → List ℕ → ℕ → List ℕ
+rowsBytes levels mids m s n = joined (λ r. rowBytes (rowOf levels mids m s r)) n
+
+-- the lowest row whose record fails, or the row count
 abbrev pub badRow : List ℕ → List ℕ → ℕ
 badRow m s = firstBad (recordOk m s) (rowsOf m)
+
+-- "5 for the lowest bad row" (What each place turns away, preparing and building)
+unfoldable pub recordsRefusal : List ℕ → List ℕ → Refusal
+recordsRefusal m s = cond (eqb (badRow m s) (rowsOf m)) none (refused 5 (badRow m s))

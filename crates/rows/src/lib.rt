@@ -5,17 +5,19 @@ ghost use Prim.Native.Nat.{_+_, _*_, _≤_, _<_};
 ghost use lib.ListN.{length};
 ghost use Rattle.le.specs.Le.{paste};
 ghost use Rattle.format.specs.Fields.{metricAt, rowsOf, dimensionsOf};
+ghost use Rattle.format.specs.Head.{headNumber};
 ghost use Rattle.format.specs.Plan.{rowsOk};
 ghost use Rattle.format.specs.Layout.{Placed};
 ghost use Rattle.quantization.specs.View.{rowBytes};
 ghost use Rattle.quantization.specs.Encoder.{midpoints};
 ghost use Rattle.segment.specs.Record.{recordOk, Starts};
-ghost use Rattle.rows.specs.Rows.{rowOf, rowsBytes, badRow};
+ghost use Rattle.rows.specs.Rows.{rowOf, rowsBytes, badRow, recordsRefusal};
 use config::Metric;
+use config::Refusal;
 use format::Layout;
 
 // The lowest row whose record fails, or the row count.
-pub fn bad_row(m: &[u8], layout: Layout, metric: Metric, starts: &[u64; 1024], s: &[u8]) -> usize
+fn bad_row(m: &[u8], layout: Layout, metric: Metric, starts: &[u64; 1024], s: &[u8]) -> usize
     requires { ⌜ Placed (now m) layout × (metric ≡ metricAt (now m)) × (rowsOk (now m) ≡ true) × Starts (now m) (now starts) ⌝ }
     ensures { λ r. ⌜ r ≡ badRow (now (m .entry)) (now (s .entry)) ⌝ }
 {
@@ -27,6 +29,24 @@ pub fn bad_row(m: &[u8], layout: Layout, metric: Metric, starts: &[u64; 1024], s
         row += 1;
     }
     row
+}
+
+// 5 for the lowest bad row.
+pub fn records_refusal(m: &[u8], layout: Layout, starts: &[u64; 1024], s: &[u8]) -> Refusal
+    requires { ⌜ (headNumber (now m) ≡ 0) × Placed (now m) layout × (rowsOk (now m) ≡ true) × Starts (now m) (now starts) ⌝ }
+    ensures { λ r. ⌜ r ≡ recordsRefusal (now (m .entry)) (now (s .entry)) ⌝ }
+{
+    let bad = bad_row(m, layout, format::metric(m), starts, s);
+    if bad != layout.rows {
+        return Refusal {
+            number: 5,
+            place: bad as u64,
+        };
+    }
+    Refusal {
+        number: 0,
+        place: 0,
+    }
 }
 
 // The row of a record that passes, into its own part of the cache; `t` are the midpoints.

@@ -1,9 +1,9 @@
 -- What an accepted library is: its entries lie in the segments, ids rise, each record passes its test; and such a library is accepted.
 -- Assumes nothing.
-use mathlib.Core.Path.{_≡_, refl, sym, ap, _∙_}
-use mathlib.Core.Bool.{Bool, true, false, cond, true≢false}
+use mathlib.Core.Path.{_≡_, sym, ap, _∙_}
+use mathlib.Core.Bool.{Bool, true, cond, true≢false}
 use mathlib.Core.List.{List}
-use Prim.Native.Nat.{ℕ, suc, _+_, _≤_, _<_}
+use Prim.Native.Nat.{ℕ, _+_, _≤_, _<_}
 use native.Mathlib.Omega.{arith}
 use lib.Dec.{eqb}
 use lib.ListN.{length, getD}
@@ -12,6 +12,7 @@ use Rattle.le.proofs.Chain.{by}
 use Rattle.rank.proofs.Members.{all-at, mem-getD}
 use Rattle.config.specs.Refusal.{none, refused}
 use Rattle.config.specs.declared.Refusal.{Refusal}
+use Rattle.config.proofs.Refusals.{not-zero, held-number, none-refused as both-none}
 use Rattle.format.specs.Fields.{segmentsOf, rowsOf, idAt, segmentAt, recordLength}
 use Rattle.format.specs.Plan.{planNumber}
 use Rattle.format.proofs.Heads.{bounds}
@@ -24,14 +25,6 @@ use Rattle.manifest.proofs.Parts.{of-segment, in-segment}
 use Rattle.segment.specs.Record.{startOf, recordAt, recordOk}
 use Rattle.segment.specs.Check.{badRecord, segmentCrcOk, rowsRefusal, segmentRefusal, badSegment, inOrder, segmentsRefusal, libraryRefusal}
 use Rattle.segment.proofs.Places.{record-within}
-
--- a refusal with a number is none of the two
-pub held-number : (t : Bool) (a b : Refusal) → (b .number ≡ 0 → ⊥) → cond t a b .number ≡ 0 → (t ≡ true) × (a .number ≡ 0)
-held-number true a b n e = (refl, e)
-held-number false a b n e = absurd (n e)
-
-not-zero : {n : ℕ} → suc n ≡ 0 → ⊥
-not-zero e = absurd (omega arith)
 
 -- a segment that is not refused: its rows' records pass, and its CRC-32
 rows-pass : (m s : List ℕ) (n : ℕ) (rows : List ℕ) → rowsRefusal m s n rows .number ≡ 0
@@ -67,12 +60,10 @@ pub record Accepted (m : List ℕ) (expected room : ℕ) (s : List ℕ) : Type 0
 pub library-accepted : (m : List ℕ) (expected room : ℕ) (s : List ℕ) → libraryRefusal m expected room s .number ≡ 0 → Accepted m expected room s
 unfolding libraryRefusal segmentsRefusal
 library-accepted m expected room s h =
-    by (eqb (manifestNumber m expected room) 0)
-    (λ e. let n = eqb-true (manifestNumber m expected room) 0 e in
-    let a = accepted m expected room n in
+    let n = both-none (manifestNumber m expected room) (segmentsRefusal m s) h in
+    let a = accepted m expected room (n .0) in
     let ok = a .0 .rows in
-    let g : segmentsRefusal m s .number ≡ 0 = rw e at h in
-    let b = held-number (eqb (length s) (startOf m (segmentsOf m))) (inOrder m s) (refused 5 0) not-zero g in
+    let b = held-number (eqb (length s) (startOf m (segmentsOf m))) (inOrder m s) (refused 5 0) not-zero (n .1) in
     let w = eqb-true (length s) (startOf m (segmentsOf m)) (b .0) in
     let each : (n : ℕ) → n < segmentsOf m → ((i : ℕ) → i < length (inSegment m n) → recordOk m s (getD (inSegment m n) i 0) ≡ true) × (segmentCrcOk m s n ≡ true) =
     λ n k. rows-pass m s n (inSegment m n) (order-pass m s n (b .1) k) in
@@ -85,8 +76,7 @@ library-accepted m expected room s h =
       ids = λ r t l k. ids-rise m r t ok l k;
       records = λ r k. all-at (λ z. recordOk m s z ≡ true) (inSegment m (segmentAt m r)) 0 (each (segmentAt m r) (entered m r ok k .segment) .0) r (of-segment m r k);
       sums = λ n k. each n k .1;
-    })
-    (λ e. let f : manifestNumber m expected room ≡ 0 = rw e at h in absurd (eqb-false (manifestNumber m expected room) 0 e f))
+    }
 
 -- and what is such is accepted
 none-refused : (m : List ℕ) (expected room : ℕ) (s : List ℕ) → Accepted m expected room s → (n : ℕ) → n < segmentsOf m → segmentRefusal m s n ≡ none

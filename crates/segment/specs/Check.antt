@@ -7,7 +7,7 @@ use lib.Dec.{eqb}
 use lib.ListN.{length, getD, take, drop}
 use Rattle.le.specs.Le.{leAt}
 use Rattle.crc32.specs.Crc.{crc32}
-use Rattle.config.specs.Refusal.{none, refused}
+use Rattle.config.specs.Refusal.{none, refused, refusedOr}
 use Rattle.config.specs.declared.Refusal.{Refusal}
 use Rattle.format.specs.Fields.{segmentsOf, lengthOf, crcOf}
 use Rattle.format.specs.Order.{firstBad}
@@ -47,8 +47,7 @@ segmentsRefusal m s = cond (eqb (length s) (startOf m (segmentsOf m))) (inOrder 
 
 -- the manifest is tested anew first (readings R12)
 unfoldable pub libraryRefusal : List ℕ → ℕ → ℕ → List ℕ → Refusal
-libraryRefusal m expected room s =
-    cond (eqb (manifestNumber m expected room) 0) (segmentsRefusal m s) (refused (manifestNumber m expected room) 0)
+libraryRefusal m expected room s = refusedOr (manifestNumber m expected room) (segmentsRefusal m s)
 
 abbrev pub checkedLibrary : List ℕ → ℕ → ℕ → List ℕ → Checked
 checkedLibrary m expected room s = checkedBy m (libraryRefusal m expected room s)

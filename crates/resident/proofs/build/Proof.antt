@@ -3,13 +3,14 @@ use mathlib.Core.Path.{_≡_, sym, ap, _∙_}
 use lib.ListN.{length}
 use Rattle.config.specs.Refusal.{refused}
 use Rattle.config.specs.declared.Refusal.{Refusal}
+use Rattle.config.proofs.Refusals.{is-done, is-other}
 use Rattle.format.specs.Fields.{rowsOf}
 use Rattle.format.specs.Head.{headAt}
 use Rattle.manifest.specs.Check.{manifestNumber}
 use Rattle.manifest.specs.declared.Checked.{Checked}
 use Rattle.manifest.proofs.Passed.{Planned, accepted}
 use Rattle.resident.specs.Build.{buildRefusal, answered, codesUpto, scalesUpto, normsUpto}
-use Rattle.resident.proofs.Answers.{checked-refusal, checked-head, answered-refused, stays, fills, refused-first, refused-next, planned-none}
+use Rattle.resident.proofs.Answers.{checked-refusal, checked-head, answered-refused, refused-first, refused-next, planned-none}
 use Rattle.resident.proofs.build.Statement.{statement}
 use Rattle.resident.proofs.build.Tie as tie
 
@@ -60,13 +61,13 @@ returns c =
     let o : R .number ≡ 0 → ⊥ = λ z. c .before .if1 .taken (ap (λ (f : Refusal). f .number) e ∙ z) in (
       c .answer .ensures ∙ ap (λ (f : Refusal). answered (d .check .result .head) f k l n) e ∙ answered-refused (d .check .result .head) (headAt m) R k l n o,
       d .check .ensures .1,
-      stays R (codesUpto m s (rowsOf m) (b .args .codes .now)) (b .args .codes .now) o,
-      stays R (scalesUpto m s (rowsOf m) (b .args .scales .now)) (b .args .scales .now) o,
-      stays R (normsUpto m s (rowsOf m) (b .args .norms .now)) (b .args .norms .now) o,
+      sym (is-other R (codesUpto m s (rowsOf m) (b .args .codes .now)) (b .args .codes .now) o),
+      sym (is-other R (scalesUpto m s (rowsOf m) (b .args .scales .now)) (b .args .scales .now) o),
+      sym (is-other R (normsUpto m s (rowsOf m) (b .args .norms .now)) (b .args .norms .now) o),
     )
 
-returns-3 : tie.Need-returns-3
-returns-3 c =
+returns-2 : tie.Need-returns-2
+returns-2 c =
     let g = c .before .before .before in
     let d = g .before .before .before .before .before .before .before in
     let b = d .before .before .before .before .before .before in
@@ -77,12 +78,12 @@ returns-3 c =
     let n = length (b .args .norms .now) in
     let R = buildRefusal m (b .args .expected-crc) (length (b .args .scratch .now)) s k l n in
     let e = second g in
-    let o : R .number ≡ 0 → ⊥ = λ z. c .before .if2 .left (ap (λ (f : Refusal). f .number) e ∙ z) in (
-      c .answer3 .ensures ∙ ap (λ (f : Refusal). answered (d .check .result .head) f k l n) e ∙ answered-refused (d .check .result .head) (headAt m) R k l n o,
+    let o : R .number ≡ 0 → ⊥ = λ z. c .before .if2 .taken (ap (λ (f : Refusal). f .number) e ∙ z) in (
+      c .answer2 .ensures ∙ ap (λ (f : Refusal). answered (d .check .result .head) f k l n) e ∙ answered-refused (d .check .result .head) (headAt m) R k l n o,
       d .check .ensures .1,
-      stays R (codesUpto m s (rowsOf m) (b .args .codes .now)) (b .args .codes .now) o,
-      stays R (scalesUpto m s (rowsOf m) (b .args .scales .now)) (b .args .scales .now) o,
-      stays R (normsUpto m s (rowsOf m) (b .args .norms .now)) (b .args .norms .now) o,
+      sym (is-other R (codesUpto m s (rowsOf m) (b .args .codes .now)) (b .args .codes .now) o),
+      sym (is-other R (scalesUpto m s (rowsOf m) (b .args .scales .now)) (b .args .scales .now) o),
+      sym (is-other R (normsUpto m s (rowsOf m) (b .args .norms .now)) (b .args .norms .now) o),
     )
 
 asked : tie.Need-store-requires
@@ -90,11 +91,11 @@ asked c κs =
     let g = c .before .before .before .before .before in
     let p = passed (g .before) in
     let b = g .before .before .before .before .before .before .before .before .before .before .before .before .before in
-    let w = planned-none (b .args .manifest .now) (b .args .segments .now) (length (b .args .codes .now)) (length (b .args .scales .now)) (length (b .args .norms .now)) (sym (ap (λ (f : Refusal). f .number) (g .plan .ensures)) ∙ c .before .before .before .if2 .taken) in
+    let w = planned-none (b .args .manifest .now) (b .args .segments .now) (length (b .args .codes .now)) (length (b .args .scales .now)) (length (b .args .norms .now)) (sym (ap (λ (f : Refusal). f .number) (g .plan .ensures)) ∙ c .before .before .before .if2 .left) in
     ((p .head, p .rows, w .0), w .1)
 
-returns-2 : tie.Need-returns-2
-returns-2 c =
+returns-3 : tie.Need-returns-3
+returns-3 c =
     let t = c .before .before .before .before .before in
     let g = t .before .before .before .before .before .before in
     let d = g .before .before .before .before .before .before .before in
@@ -106,12 +107,12 @@ returns-2 c =
     let n = length (b .args .norms .now) in
     let R = buildRefusal m (b .args .expected-crc) (length (b .args .scratch .now)) s k l n in
     let e = second g in
-    let o : R .number ≡ 0 = sym (ap (λ (f : Refusal). f .number) e) ∙ t .before .before .before .before .if2 .taken in (
-      c .answer2 .ensures ∙ rw (e, head (g .before), t .store .kept .1 .1 .0, t .store .kept .1 .1 .1 .0, t .store .kept .1 .1 .1 .1 .0),
+    let o : R .number ≡ 0 = sym (ap (λ (f : Refusal). f .number) e) ∙ t .before .before .before .before .if2 .left in (
+      c .answer3 .ensures ∙ rw (e, head (g .before), t .store .kept .1 .1 .0, t .store .kept .1 .1 .1 .0, t .store .kept .1 .1 .1 .1 .0),
       d .check .ensures .1,
-      t .store .ensures .0 ∙ fills R (codesUpto m s (rowsOf m) (b .args .codes .now)) (b .args .codes .now) o,
-      t .store .ensures .1 ∙ fills R (scalesUpto m s (rowsOf m) (b .args .scales .now)) (b .args .scales .now) o,
-      t .store .ensures .2 ∙ fills R (normsUpto m s (rowsOf m) (b .args .norms .now)) (b .args .norms .now) o,
+      t .store .ensures .0 ∙ sym (is-done R (codesUpto m s (rowsOf m) (b .args .codes .now)) (b .args .codes .now) o),
+      t .store .ensures .1 ∙ sym (is-done R (scalesUpto m s (rowsOf m) (b .args .scales .now)) (b .args .scales .now) o),
+      t .store .ensures .2 ∙ sym (is-done R (normsUpto m s (rowsOf m) (b .args .norms .now)) (b .args .norms .now) o),
     )
 
 pub build-spec : {M : Type 1} → statement M
@@ -123,13 +124,13 @@ build-spec =
     (λ c. c .before .before .before .before .before .before .before .check .kept .1 .1 .0)
     returns
     (λ c κs. let p = passed c in (p .head, p .rows))
+    (λ c κs. search needs)
+    (λ c. c .before .before .before .before .before .before .before .before .before .before .check .kept .1 .1 .0)
+    returns-2
     asked
     (λ c κs. search needs)
     (λ c. c .before .before .before .before .before .before .before .before .before .before .before .before .before .before .before .before .before .before .check .kept .1 .1 .0)
     (λ c. c .before .before .before .before .before .store .kept .1 .1 .0)
     (λ c. c .before .before .before .before .before .store .kept .1 .1 .1 .0)
     (λ c. c .before .before .before .before .before .store .kept .1 .1 .1 .1 .0)
-    returns-2
-    (λ c κs. search needs)
-    (λ c. c .before .before .before .before .before .before .before .before .before .before .check .kept .1 .1 .0)
     returns-3)

@@ -1,6 +1,7 @@
 use borrow.Author.Needs.{needs}
 use native.Mathlib.Omega.{arith}
 use mathlib.Core.Path.{_≡_, refl, ap, _∙_}
+use mathlib.Core.List.{[], _∷_}
 use Prim.Native.Nat.{_+_, _-_, _*_, _≤_, _<_}
 use native.Mathlib.Nat.{mul-le-mul}
 use lib.ListN.{length, take, drop}
@@ -10,7 +11,9 @@ use Rattle.format.proofs.First.{each-passes}
 use Rattle.format.proofs.Entries.{lengths-of, entry-keeps}
 use Rattle.segment.specs.Record.{recordOk}
 use Rattle.resident.specs.Build.{residentRow, codesUpto, scalesUpto, normsUpto}
-use Rattle.resident.proofs.Rows.{Good, good, room, length-codes, part-turn, one-turn, upto-none, length-upto, ones-none, length-ones, part-length, same-row, asks, norm-stored}
+use Rattle.rows.proofs.Written.{Good, good}
+use Rattle.rows.proofs.Joined.{store-none, length-stored, part-turn, element-turn}
+use Rattle.resident.proofs.Rows.{room, length-codes, part-length, same-row, asks, norm-stored}
 use Rattle.resident.proofs.fill.Statement.{statement}
 use Rattle.resident.proofs.fill.Tie as tie
 
@@ -45,9 +48,9 @@ lengths c =
     let h : r ≤ rowsOf m = omega (arith, I .0, b .pre .0 .0 .rows) in
     let d : dimensionsOf m ≤ dimensionsOf m = omega arith in
     let w = mul-le-mul h d in (
-      ap length (I .1) ∙ length-upto (λ r. residentRow m s r .codes) (dimensionsOf m) (length-codes m s) r (b .args .codes .now) (omega (arith, w, b .pre .1 .0)),
-      ap length (I .2) ∙ length-ones (λ r. residentRow m s r .scale) r (b .args .scales .now) (omega (arith, h, b .pre .1 .1)),
-      ap length (I .3) ∙ length-ones (λ r. residentRow m s r .norm) r (b .args .norms .now) (omega (arith, h, b .pre .1 .2)),
+      ap length (I .1) ∙ length-stored (λ r. residentRow m s r .codes) (dimensionsOf m) (length-codes m s) (b .args .codes .now) 0 r (omega (arith, w, b .pre .1 .0)),
+      ap length (I .2) ∙ length-stored (λ r. residentRow m s r .scale ∷ []) 1 (λ r. refl) (b .args .scales .now) 0 r (omega (arith, h, b .pre .1 .1)),
+      ap length (I .3) ∙ length-stored (λ r. residentRow m s r .norm ∷ []) 1 (λ r. refl) (b .args .norms .now) 0 r (omega (arith, h, b .pre .1 .2)),
     )
 
 -- and have room for the row
@@ -86,12 +89,15 @@ again c =
     let p = b .pre .0 .0 in
     let I = L .inv in
     let h = below d in
+    let f = spare d in
+    let l = lengths (d .before .before) in
+    let x : L .row * b .args .layout .dimensions ≡ L .row * dimensionsOf m = ap (λ y. L .row * y) (p .dimensions) in
     let E = c .before .before .encode-resident .ensures in
     let w = same-row m s (L .row) _ _ (part d) (ap (λ x. x + 12) (c .before .before .before .before .before .before .record-at .ensures)) in (
       search needs,
-      part-turn (λ r. residentRow m s r .codes) (b .args .codes .now) (L .row) (dimensionsOf m) (length-codes m s) (I .1) (E .0 ∙ ap (λ (v : View). v .codes) w) (ap (λ x. L .row * x) (p .dimensions)) (ap (λ x. L .row * b .args .layout .dimensions + x) (p .dimensions)),
-      one-turn (λ r. residentRow m s r .scale) (b .args .scales .now) (L .row) (I .2) (E .1 ∙ ap (λ (v : View). v .scale) w) (omega (arith, h, b .pre .1 .1)),
-      one-turn (λ r. residentRow m s r .norm) (b .args .norms .now) (L .row) (I .3) (norm-stored m s (L .row) (p .high) (E .2 ∙ ap (λ (v : View). v .norm) w)) (omega (arith, h, b .pre .1 .2)),
+      part-turn (λ r. residentRow m s r .codes) (dimensionsOf m) (length-codes m s) (b .args .codes .now) 0 (L .row) (I .1) (E .0 ∙ ap (λ (v : View). v .codes) w) (omega (arith, x)) (ap (λ x. L .row * b .args .layout .dimensions + x) (p .dimensions)) (omega (arith, f .0, l .0)),
+      element-turn (λ r. residentRow m s r .scale) (b .args .scales .now) (L .row) (I .2) (E .1 ∙ ap (λ (v : View). v .scale) w) (omega (arith, h, b .pre .1 .1)),
+      element-turn (λ r. residentRow m s r .norm) (b .args .norms .now) (L .row) (I .3) (norm-stored m s (L .row) (p .high) (E .2 ∙ ap (λ (v : View). v .norm) w)) (omega (arith, h, b .pre .1 .2)),
     )
 
 pub fill-spec : {M : Type 1} → statement M
@@ -103,7 +109,7 @@ fill-spec =
     (λ c. let a = c .before .before .before .args in
     let m = a .m .now in
     let s = a .s .now in
-    (search needs, upto-none (λ r. residentRow m s r .codes) (dimensionsOf m) (a .codes .now), ones-none (λ r. residentRow m s r .scale) (a .scales .now), ones-none (λ r. residentRow m s r .norm) (a .norms .now)))
+    (search needs, store-none (λ r. residentRow m s r .codes) (a .codes .now) 0, store-none (λ r. residentRow m s r .scale ∷ []) (a .scales .now) 0, store-none (λ r. residentRow m s r .norm ∷ []) (a .norms .now) 0))
     (λ c κs. let b = c .before .before .before .before .before .before in
     let m = b .args .m .now in
     (b .pre .0 .0, lengths-of m (b .pre .0 .1), b .pre .0 .2, c .if1 .taken, entry-keeps m (c .before .before .loop .row) (b .pre .0 .1) (below c)))

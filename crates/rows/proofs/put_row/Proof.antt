@@ -4,9 +4,9 @@ use mathlib.Core.Bool.{true}
 use Prim.Native.Nat.{_+_, _-_, _*_, _≤_}
 use lib.ListN.{length}
 use Rattle.config.specs.Vector.{finites, floatsAt}
-use Rattle.format.specs.Fields.{dimensionsOf, recordLength}
+use Rattle.format.specs.Fields.{dimensionsOf}
 use Rattle.format.proofs.Entries.{lengths-of, entry-keeps}
-use Rattle.rows.proofs.Written.{record-parts}
+use Rattle.rows.proofs.Written.{good}
 use Rattle.rows.proofs.put_row.Statement.{statement}
 use Rattle.rows.proofs.put_row.Tie as tie
 
@@ -14,13 +14,10 @@ use Rattle.rows.proofs.put_row.Tie as tie
 coordinates : (c : tie.After-record-at)
     → let b = c .before .before .before .before in
     (c .record-at .result + 12 + 4 * dimensionsOf (b .args .m .now) ≤ length (b .args .s .now)) × (finites (floatsAt (dimensionsOf (b .args .m .now)) (b .args .s .now) (c .record-at .result + 12)) ≡ true)
-unfolding recordLength
 coordinates c =
     let b = c .before .before .before .before in
-    let m = b .args .m .now in
-    let h = record-parts m (b .args .s .now) (b .args .row) (b .pre .5) in
-    let e = c .record-at .ensures in
-    (omega (arith, h .0, e), rw e (h .1))
+    let g = good (b .args .m .now) (b .args .s .now) (b .args .row) (b .pre .5) in
+    rw (c .record-at .ensures) (g .inside, g .fine)
 
 width : (c : tie.After-record-at) → let b = c .before .before .before .before in length (b .args .part .now) - 16 ≡ dimensionsOf (b .args .m .now)
 width c = let b = c .before .before .before .before in let e = b .pre .6 in omega (arith, e)

@@ -1,19 +1,20 @@
 use borrow.Author.Needs.{needs}
 use native.Mathlib.Omega.{arith}
 use mathlib.Core.Path.{_≡_, refl, sym, ap, _∙_}
-use Prim.Native.Nat.{_+_, _-_, _*_, _≤_, _<_}
+use mathlib.Core.List.{List}
+use Prim.Native.Nat.{ℕ, _+_, _-_, _*_, _≤_, _<_}
 use native.Mathlib.Nat.{suc-mul}
 use native.Mathlib.Numerals.{add-one}
 use lib.ListN.{length, length-take, length-drop}
 use Rattle.le.specs.Le.{paste}
-use Rattle.le.proofs.Pastes.{paste-nil, paste-part, length-paste}
 use Rattle.quantization.specs.View.{rowBytes}
 use Rattle.quantization.specs.Encoder.{midpoints}
-use Rattle.format.specs.Fields.{rowsOf, dimensionsOf}
+use Rattle.format.specs.Fields.{rowsOf}
 use Rattle.format.proofs.First.{each-passes}
 use Rattle.segment.specs.Record.{recordOk}
 use Rattle.rows.specs.Rows.{rowOf, rowsBytes}
-use Rattle.rows.proofs.Written.{row-ends, no-rows, length-own, length-rows, put-next}
+use Rattle.rows.proofs.Written.{length-own}
+use Rattle.rows.proofs.Joined.{part-ends, store-none, part-turn, length-stored}
 use Rattle.rows.proofs.put_rows.Statement.{statement}
 use Rattle.rows.proofs.put_rows.Tie as tie
 
@@ -33,7 +34,7 @@ lies c =
     let b = c .before .before .before .before .before .before in
     let L = c .before .before .loop in
     let k : L .row < rowsOf (b .args .m .now) = rw (b .pre .0 .rows) at (c .if1 .taken) in
-    let h = row-ends (L .row) (b .args .size) (rowsOf (b .args .m .now)) k in
+    let h = part-ends (L .row) (b .args .size) (rowsOf (b .args .m .now)) k in
     (k, omega (arith, h, b .pre .6, L .inv .1), L .inv .2)
 
 asked : tie.Need-put-row-requires Inv-loop μ-loop
@@ -49,20 +50,13 @@ again c =
     let L = c .before .before .before .before .before .before .loop in
     let m = b .args .m .now in
     let s = b .args .s .now in
+    let own : ℕ → List ℕ = λ r. rowBytes (rowOf 127 midpoints m s r) in
+    let o : (r : ℕ) → length (own r) ≡ b .args .size = λ r. length-own m s r ∙ sym (b .pre .5) in
     let d = b .args .cache .now in
     let h = lies (c .before .before .before .before) in
-    let r = rowBytes (rowOf 127 midpoints m s (L .row)) in
     let k : (L .row + 1) * b .args .size ≡ L .row * b .args .size + b .args .size = rw (add-one (L .row)) (suc-mul (L .row) (b .args .size)) in
-    let p : c .before .before .put-row .last .1 .1 .1 .1 .1 .0 ≡ r = c .before .before .put-row .ensures in
-    let o : length (c .before .before .put-row .last .1 .1 .1 .1 .1 .0) ≡ b .args .size = ap length p ∙ length-own m s (L .row) ∙ sym (b .pre .5) in
-    let z : b .args .size ≡ dimensionsOf m + 16 = b .pre .5 in
-    let q = paste-part (L .cache) (L .from) (L .from + b .args .size) (c .before .before .put-row .last .1 .1 .1 .1 .1 .0) (omega arith) (omega (arith, o))
-    ∙ ap (λ y. paste (L .cache) (L .from) y) p ∙ ap (λ y. paste y (L .from) r) (L .inv .3)
-    ∙ put-next m s d (b .args .at) (L .row) (L .from) (rw z at (L .inv .1)) (omega (arith, h .1)) in
-    let l = length-rows m s (L .row + 1) in
-    let w : b .args .at + (L .row + 1) * b .args .size ≤ length d = omega (arith, h .1, k, L .inv .1) in
-    let n : b .args .at + length (rowsBytes 127 midpoints m s (L .row + 1)) ≤ length d = rw l (rw z at w) in
-    (search needs, omega (arith, k, L .inv .1), ap length q ∙ length-paste d (rowsBytes 127 midpoints m s (L .row + 1)) (b .args .at) n, q)
+    let q = part-turn own (b .args .size) o d (b .args .at) (L .row) (L .inv .3) (c .before .before .put-row .ensures) (L .inv .1) refl (omega (arith, h .1)) in
+    (search needs, omega (arith, k, L .inv .1), ap length q ∙ length-stored own (b .args .size) o d (b .args .at) (L .row + 1) (omega (arith, h .1, k, L .inv .1)), q)
 
 pub put-rows-spec : {M : Type 1} → statement M
 put-rows-spec =
@@ -71,7 +65,7 @@ put-rows-spec =
     Inv-loop
     μ-loop
     (λ c. let b = c .before .before .before in
-    (search needs, omega arith, refl, rw (no-rows (b .args .m .now) (b .args .s .now)) (sym (paste-nil (b .args .cache .now) (b .args .at)))))
+    (search needs, omega arith, refl, store-none (λ r. rowBytes (rowOf 127 midpoints (b .args .m .now) (b .args .s .now) r)) (b .args .cache .now) (b .args .at)))
     (λ c. let h = lies c .1 in omega (arith, h))
     (λ c. search needs)
     (λ c. search needs)

@@ -1,10 +1,9 @@
 use borrow.Author.Tests.{eq-eqb, ne-eqb}
 use Rattle.format.specs.Fields.{rowsOf}
 use Rattle.format.proofs.Heads.{bounds}
-use Rattle.resident.specs.Build.{recordsRefusal}
-use Rattle.rows.specs.Rows.{badRow}
-use Rattle.resident.proofs.records_refusal.Statement.{statement}
-use Rattle.resident.proofs.records_refusal.Tie as tie
+use Rattle.rows.specs.Rows.{badRow, recordsRefusal}
+use Rattle.rows.proofs.records_refusal.Statement.{statement}
+use Rattle.rows.proofs.records_refusal.Tie as tie
 
 returns : tie.Need-returns
 unfolding recordsRefusal
