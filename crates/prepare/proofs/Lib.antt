@@ -1,3 +1,4 @@
 -- Laws of preparing.
 pub mod Stored
 pub mod Opened
+pub mod Accepted

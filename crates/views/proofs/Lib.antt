@@ -1,0 +1,2 @@
+-- The cached and the resident rows of a library.
+pub mod Views
