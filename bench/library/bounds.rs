@@ -1,6 +1,6 @@
 //! The bounds that take megabytes to reach: a manifest and a segment of 64 MiB, a million rows. On each the proved check must give the
 //! number expected, and the Rust the text that goes with it.
-use crate::{ours, sealed, theirs, Temp};
+use crate::{ours, sealed, store::Temp, theirs};
 use std::fs;
 
 /// A manifest of one segment and the segment: rows of zeros with ids from 0, squared L2, `metadata` bytes of it in the last row.

@@ -1,4 +1,4 @@
-//! Random data, and ratios of times, for this program and bench/library; each uses a part.
+//! Random data, and ratios of times, for this program, bench/library and bench/cache; each uses a part.
 #![allow(dead_code)]
 use std::time::Instant;
 

@@ -17,7 +17,12 @@ ghost use Rattle.math.specs.Distance.{Readable, inverseNorm, original};
 ghost use Rattle.math.specs.Four.{originalFour};
 ghost use Rattle.manifest.specs.Check.{scratchAfter};
 ghost use Rattle.segment.specs.Check.{libraryRefusal};
+ghost use Rattle.quantized_cache.specs.Size.{sizeOf};
+ghost use Rattle.quantized_cache.specs.Open.{opened};
+ghost use Rattle.prepare.specs.Prepare.{prepareRefusal, cacheAfter, preparedBy};
+ghost use Rattle.resident.specs.Build.{buildRefusal, codesAfter, scalesAfter, normsAfter};
 use config::Metric;
+use geometry::Options;
 
 // ---- CRC-32 and the square root.
 
@@ -258,6 +263,112 @@ pub extern "C" fn pv_segment_check(
 {
     let checked = segment::check(manifest, expected_crc, scratch, segments);
     let refusal = checked.refusal;
+    *place = refusal.place;
+    refusal.number
+}
+
+// ---- The cache and the resident rows. The refusal's number; its place, and what else is answered, go into the room that the caller lends.
+
+// Also the cache's size.
+#[no_mangle]
+pub extern "C" fn pv_prepare(
+    manifest: &[u8],
+    expected_crc: u32,
+    scratch: &mut [u64],
+    segments: &[u8],
+    platform: &[u8],
+    root: &[u8],
+    max_cache_bytes: usize,
+    buffer_bytes: usize,
+    cache: &mut [u8],
+    place: &mut u64,
+    cache_bytes: &mut u64,
+) -> u32
+    ensures { λ r. ⌜ (let refusal = prepareRefusal (now (manifest .entry)) «expected_crc» (length (now (scratch .entry))) (now (segments .entry)) (now (platform .entry)) (now (root .entry)) (record { «max_cache_bytes» = «max_cache_bytes»; «buffer_bytes» = «buffer_bytes» }) (length (now (cache .entry))) in (r ≡ refusal .number) × (now (place .exit) ≡ refusal .place) × (now («cache_bytes» .exit) ≡ preparedBy (now (manifest .entry)) (sizeOf (now (manifest .entry)) (now (platform .entry)) (now (root .entry))) refusal .info .«cache_bytes») × (now (cache .exit) ≡ cacheAfter (now (manifest .entry)) (now (segments .entry)) (now (platform .entry)) (now (root .entry)) refusal (now (cache .entry)))) ⌝ }
+    ensures { λ r. ⌜ now (scratch .exit) ≡ scratchAfter (now (manifest .entry)) «expected_crc» (now (scratch .entry)) ⌝ }
+{
+    let options = Options {
+        max_cache_bytes: max_cache_bytes,
+        buffer_bytes: buffer_bytes,
+    };
+    let prepared = prepare::prepare(
+        manifest,
+        expected_crc,
+        scratch,
+        segments,
+        platform,
+        root,
+        options,
+        cache,
+    );
+    let refusal = prepared.refusal;
+    let info = prepared.info;
+    *place = refusal.place;
+    *cache_bytes = info.cache_bytes as u64;
+    refusal.number
+}
+
+// Also the cache's length as the state has it.
+#[no_mangle]
+pub extern "C" fn pv_cache_open(
+    manifest: &[u8],
+    expected_crc: u32,
+    scratch: &mut [u64],
+    cache: &[u8],
+    platform: &[u8],
+    root: &[u8],
+    max_cache_bytes: usize,
+    buffer_bytes: usize,
+    place: &mut u64,
+    cache_bytes: &mut u64,
+) -> u32
+    ensures { λ r. ⌜ (let answer = opened (now (manifest .entry)) «expected_crc» (length (now (scratch .entry))) (now (cache .entry)) (now (platform .entry)) (now (root .entry)) (record { «max_cache_bytes» = «max_cache_bytes»; «buffer_bytes» = «buffer_bytes» }) in (r ≡ answer .refusal .number) × (now (place .exit) ≡ answer .refusal .place) × (now («cache_bytes» .exit) ≡ answer .state .cache)) ⌝ }
+    ensures { λ r. ⌜ now (scratch .exit) ≡ scratchAfter (now (manifest .entry)) «expected_crc» (now (scratch .entry)) ⌝ }
+{
+    let options = Options {
+        max_cache_bytes: max_cache_bytes,
+        buffer_bytes: buffer_bytes,
+    };
+    let answer = quantized_cache::open(
+        manifest,
+        expected_crc,
+        scratch,
+        cache,
+        platform,
+        root,
+        options,
+    );
+    let refusal = answer.refusal;
+    let state = answer.state;
+    *place = refusal.place;
+    *cache_bytes = state.cache as u64;
+    refusal.number
+}
+
+#[no_mangle]
+pub extern "C" fn pv_build(
+    manifest: &[u8],
+    expected_crc: u32,
+    scratch: &mut [u64],
+    segments: &[u8],
+    codes: &mut [i8],
+    scales: &mut [f64],
+    norms: &mut [i64],
+    place: &mut u64,
+) -> u32
+    ensures { λ r. ⌜ (let refusal = buildRefusal (now (manifest .entry)) «expected_crc» (length (now (scratch .entry))) (now (segments .entry)) (length (now (codes .entry))) (length (now (scales .entry))) (length (now (norms .entry))) in (r ≡ refusal .number) × (now (place .exit) ≡ refusal .place) × (now (codes .exit) ≡ codesAfter (now (manifest .entry)) (now (segments .entry)) refusal (now (codes .entry))) × (now (scales .exit) ≡ scalesAfter (now (manifest .entry)) (now (segments .entry)) refusal (now (scales .entry))) × (now (norms .exit) ≡ normsAfter (now (manifest .entry)) (now (segments .entry)) refusal (now (norms .entry)))) ⌝ }
+    ensures { λ r. ⌜ now (scratch .exit) ≡ scratchAfter (now (manifest .entry)) «expected_crc» (now (scratch .entry)) ⌝ }
+{
+    let built = resident::build(
+        manifest,
+        expected_crc,
+        scratch,
+        segments,
+        codes,
+        scales,
+        norms,
+    );
+    let refusal = built.refusal;
     *place = refusal.place;
     refusal.number
 }
