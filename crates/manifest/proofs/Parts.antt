@@ -39,13 +39,14 @@ to-keep ok z (x ∷ xs) h e =
     (λ p. rw p (⊎-elim {C = z ∈ (x ∷ keep ok xs)} (λ (q : z ≡ x). inl q) (λ i. inr (to-keep ok z xs i e)) h))
     (λ p. rw p (⊎-elim {C = z ∈ keep ok xs} (λ (q : z ≡ x). absurd (true≢false (sym e ∙ rw q p))) (λ i. to-keep ok z xs i e) h))
 
--- each row is among those of its segment
+-- each row is among all, and among those of its segment
+pub of-all : (m : List ℕ) (r : ℕ) → r < rowsOf m → r ∈ physical m
+unfolding physical
+of-all m r h = to-sort (byKey (position m)) r (passing (λ t. true) (rowsOf m)) (passing-complete (λ t. true) (rowsOf m) r h refl)
+
 pub of-segment : (m : List ℕ) (r : ℕ) → r < rowsOf m → r ∈ inSegment m (segmentAt m r)
-unfolding physical inSegment
-of-segment m r h =
-    to-keep (λ t. eqb (segmentAt m t) (segmentAt m r)) r (physical m)
-    (to-sort (byKey (position m)) r (passing (λ t. true) (rowsOf m)) (passing-complete (λ t. true) (rowsOf m) r h refl))
-    (eq-eqb (segmentAt m r) (segmentAt m r) refl)
+unfolding inSegment
+of-segment m r h = to-keep (λ t. eqb (segmentAt m t) (segmentAt m r)) r (physical m) (of-all m r h) (eq-eqb (segmentAt m r) (segmentAt m r) refl)
 
 pub keep-all : (ok : ℕ → Bool) (l : List ℕ) → ((z : ℕ) → z ∈ l → ok z ≡ true) → keep ok l ≡ l
 keep-all ok [] h = refl
@@ -161,6 +162,21 @@ module _ (m : List ℕ) where
     rows-back [] h = refl
     rows-back (r ∷ rs) h = rw (row-of m r (small m ok few (h r (inl refl))), rows-back rs (λ z i. h z (inr i)))
 
+    below-of : (ks l : List ℕ) → map keyRow ks ≡ l → ((r : ℕ) → r ∈ l → r < rowsOf m) → Below (rowsOf m) ks
+    below-of ks l e h =
+        record {
+          at = λ k q.
+              let g : keyRow (getD ks k 0) ≡ getD l k (keyRow 0) = sym (List·getD-map keyRow ks k 0) ∙ ap (λ t. getD t k (keyRow 0)) e in
+              let w : k < length l = rw (← e, length-map ks keyRow) q in
+              rw g (h (getD l k (keyRow 0)) (mem-getD l k (keyRow 0) w));
+        }
+
+    -- the keys of all rows in order
+    pub all-keys : (keys : List ℕ) → keys ≡ map (key m) (physical m) → (map keyRow keys ≡ physical m) × Below (rowsOf m) keys
+    all-keys keys e =
+        let r : map keyRow keys ≡ physical m = rw e (rows-back (physical m) (in-rows m ok few)) in
+        (r, below-of keys (physical m) r (in-rows m ok few))
+
     held-part : {keys : List ℕ} {i n c : ℕ} → Held keys i n → c ≡ run n (drop i keys) → Part keys i n c
     unfolding inSegment
     held-part {keys} {i} {n} {c} h e =
@@ -178,13 +194,7 @@ module _ (m : List ℕ) where
           within = rw e (run-within n (drop i keys));
           part = part;
           rows = rows;
-          below = record {
-            at = λ k q.
-                let g : keyRow (getD (take c (drop i keys)) k 0) ≡ getD (inSegment m n) k (keyRow 0) =
-                sym (List·getD-map keyRow (take c (drop i keys)) k 0) ∙ ap (λ l. getD l k (keyRow 0)) rows in
-                let w : k < length (inSegment m n) = rw (← rows, length-map (take c (drop i keys)) keyRow) q in
-                rw g (in-segment n (getD (inSegment m n) k (keyRow 0)) (mem-getD (inSegment m n) k (keyRow 0) w));
-          };
+          below = below-of (take c (drop i keys)) (inSegment m n) rows (in-segment n);
           next = record { so = sym (drop-drop c i keys) ∙ rw (h .so, f, drop-map (key m) (run n (map (key m) l)) l, t .1, after) };
         }
 

@@ -5,20 +5,20 @@ use Prim.Native.Nat.{ℕ}
 use native.Mathlib.Omega.{arith}
 use lib.Dec.{leb, eqb}
 use lib.ListN.{length}
-use borrow.Author.Tests.{eqb-false, eq-eqb}
+use borrow.Author.Tests.{eqb-false}
 use Rattle.le.proofs.Chain.{by, held}
 use Rattle.config.specs.Refusal.{none}
 use Rattle.format.specs.Fields.{dimensionsOf, rowsOf}
 use Rattle.geometry.specs.Cache.{rowLength, cacheSize, identityLength}
 use Rattle.geometry.specs.Sizing.{placeOk, optionsOk, codesOk, sizeOk, sizingNumber}
 use Rattle.geometry.specs.declared.Options.{Options}
-use Rattle.manifest.specs.Check.{manifestNumber}
 use Rattle.segment.specs.Check.{libraryRefusal}
 use Rattle.segment.proofs.Library.{library-accepted, accepted-number}
-use Rattle.quantized_cache.specs.Size.{sizeOf, sizingOf, sizeNumber}
+use Rattle.quantized_cache.specs.Size.{sizeOf, sizingOf}
 use Rattle.rows.specs.Rows.{recordsRefusal}
 use Rattle.rows.proofs.Written.{all-good}
-use Rattle.prepare.specs.Prepare.{lateRefusal, prepareRefusal}
+use Rattle.prepare.specs.Prepare.{lateRefusal, acceptedRefusal, prepareRefusal}
+use Rattle.prepare.proofs.Stored.{accepted-manifest}
 
 sizing-not-5 : (platform root limit block manifest rows dimensions : ℕ) → sizingNumber platform root limit block manifest rows dimensions ≡ 5 → ⊥
 unfolding sizingNumber
@@ -30,10 +30,9 @@ sizing-not-5 platform root limit block manifest rows dimensions h =
     let d = held (sizeOk size limit) (eqb-false 9 5 refl) (c .1) in
     eqb-false 0 5 refl (d .1)
 
-size-not-5 : (m : List ℕ) (expected room : ℕ) (platform root : List ℕ) (o : Options) → manifestNumber m expected room ≡ 0 → sizeNumber m expected room platform root o ≡ 5 → ⊥
-unfolding sizeNumber sizingOf
-size-not-5 m expected room platform root o n h =
-    sizing-not-5 (length platform) (length root) (o .«max_cache_bytes») (o .«buffer_bytes») (length m) (rowsOf m) (dimensionsOf m) (rw (eq-eqb (manifestNumber m expected room) 0 n) at h)
+size-not-5 : (m platform root : List ℕ) (o : Options) → sizingOf m platform root o ≡ 5 → ⊥
+unfolding sizingOf
+size-not-5 m platform root o h = sizing-not-5 (length platform) (length root) (o .«max_cache_bytes») (o .«buffer_bytes») (length m) (rowsOf m) (dimensionsOf m) h
 
 late-not-5 : (m s : List ℕ) (size lent : ℕ) → recordsRefusal m s ≡ none → lateRefusal m s size lent .number ≡ 5 → ⊥
 unfolding lateRefusal
@@ -43,9 +42,9 @@ late-not-5 m s size lent r h =
 -- document 01: 5 when preparing is a record that fails a test of the segment check
 pub never-5 : (m : List ℕ) (expected room : ℕ) (s : List ℕ) → libraryRefusal m expected room s .number ≡ 0 → (platform root : List ℕ) (o : Options) (lent : ℕ)
     → prepareRefusal m expected room s platform root o lent .number ≡ 5 → ⊥
-unfolding prepareRefusal
+unfolding acceptedRefusal
 never-5 m expected room s h platform root o lent e =
     let a = library-accepted m expected room s h in
-    let n = sizeNumber m expected room platform root o in
-    by (eqb n 0) (λ z. late-not-5 m s (sizeOf m platform root) lent (all-good m s (a .records)) (rw z at e))
-    (λ z. size-not-5 m expected room platform root o (accepted-number a) (rw z at e))
+    let f = rw (accepted-manifest m expected room s platform root o lent (accepted-number a)) at e in
+    by (eqb (sizingOf m platform root o) 0) (λ z. late-not-5 m s (sizeOf m platform root) lent (all-good m s (a .records)) (rw z at f))
+    (λ z. size-not-5 m platform root o (rw z at f))

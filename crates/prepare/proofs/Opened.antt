@@ -35,7 +35,7 @@ use Rattle.geometry.specs.declared.Options.{Options}
 use Rattle.geometry.proofs.Parts.{length-head, length-cache, length-identity, magic-bytes}
 use Rattle.geometry.proofs.Opens.{head-opens}
 use Rattle.manifest.specs.Check.{manifestNumber}
-use Rattle.manifest.proofs.Passed.{or-else, other-room}
+use Rattle.manifest.proofs.Passed.{other-room}
 use Rattle.quantized_cache.specs.Size.{sizeOf, sizingOf, sizeNumber}
 use Rattle.quantized_cache.specs.Open.{rowStart, cachedAt, cachedOk, badRow, sealOk, contentRefusal, openNumber, openRefusal}
 use Rattle.rows.specs.Rows.{rowOf, joined, rowsBytes, badRow as badRecord}
@@ -175,8 +175,7 @@ module _ (m : List ℕ) (expected room : ℕ) (s platform root : List ℕ) (o : 
   unfolding sizeNumber
   sized-again other f =
       let r = ready m expected room s platform root o lent h in
-      let p = or-else (manifestNumber m expected room) (sizingOf m platform root o) (r .number) in
-      rw (eq-eqb (manifestNumber m expected other) 0 (other-room m expected room other (p .0) f)) (p .1)
+      rw (eq-eqb (manifestNumber m expected other) 0 (other-room m expected room other (r .number) f)) (r .library .sizing)
 
   number : (other : ℕ) → rowsOf m ≤ other → openNumber m expected other (cacheOf m s platform root) platform root o ≡ 0
   unfolding openNumber

@@ -17,14 +17,16 @@ use Rattle.quantization.specs.Encoder.{midpoints}
 use Rattle.format.specs.Fields.{rowsOf, dimensionsOf}
 use Rattle.geometry.specs.Cache.{identity, identityLength, cacheHead, cacheBytes}
 use Rattle.geometry.proofs.Parts.{length-identity, length-head}
-use Rattle.quantized_cache.specs.Size.{sizeOf, sizeNumber}
+use Rattle.manifest.specs.Check.{manifestNumber}
+use Rattle.manifest.proofs.Passed.{accepted}
+use Rattle.quantized_cache.specs.Size.{sizeOf, sizingOf}
 use Rattle.geometry.specs.declared.Options.{Options}
-use Rattle.quantized_cache.proofs.Sizes.{Passed, passed}
+use Rattle.quantized_cache.proofs.Sizes.{Passed}
 use Rattle.quantization.specs.View.{rowBytes}
 use Rattle.rows.specs.Rows.{rowOf, rowsBytes, badRow, recordsRefusal}
 use Rattle.rows.proofs.Written.{length-own, none-bad}
 use Rattle.rows.proofs.Joined.{length-joined}
-use Rattle.prepare.specs.Prepare.{lateRefusal, prepareRefusal, cacheOf, cacheAfter, infoOf, noInfo, preparedBy}
+use Rattle.prepare.specs.Prepare.{lateRefusal, acceptedRefusal, prepareRefusal, cacheOf, cacheAfter, infoOf, noInfo, preparedBy}
 
 -- what is not refused after sizing
 pub late-passed : (m s : List ℕ) (size room : ℕ) → lateRefusal m s size room .number ≡ 0 → (size ≤ room) × (badRow m s ≡ rowsOf m)
@@ -78,18 +80,24 @@ module _ (m s platform root : List ℕ) where
       let n : length (x ++ y) ≡ size = length-append x y ∙ rw (l, length-bytes 4 (crc32 x)) (let g = p .long in omega (arith, g)) in
       rw (two, front) (paste-next d 0 x y (size - 4) (let q = l in omega (arith, q)) (let f = p .fits in omega (arith, f)) ∙ paste-first d (x ++ y) ∙ ap (λ k. (x ++ y) ++ drop k d) n)
 
--- ---- a refusal of the manifest or of sizing, and none
+-- ---- the manifest's number, sizing's, and what comes after them
 module _ (m : List ℕ) (expected scratch : ℕ) (s platform root : List ℕ) (o : Options) (room : ℕ) where
-  abbrev number : ℕ
-  number = sizeNumber m expected scratch platform root o
-
-  pub early : (number ≡ 0 → ⊥) → prepareRefusal m expected scratch s platform root o room ≡ refused number 0
+  pub refused-manifest : (manifestNumber m expected scratch ≡ 0 → ⊥) → prepareRefusal m expected scratch s platform root o room ≡ refused (manifestNumber m expected scratch) 0
   unfolding prepareRefusal
-  early h = stops number (lateRefusal m s (sizeOf m platform root) room) h
+  refused-manifest h = stops (manifestNumber m expected scratch) (acceptedRefusal m s platform root o room) h
 
-  pub late : number ≡ 0 → prepareRefusal m expected scratch s platform root o room ≡ lateRefusal m s (sizeOf m platform root) room
+  pub accepted-manifest : manifestNumber m expected scratch ≡ 0 → prepareRefusal m expected scratch s platform root o room ≡ acceptedRefusal m s platform root o room
   unfolding prepareRefusal
-  late h = goes-on number (lateRefusal m s (sizeOf m platform root) room) h
+  accepted-manifest h = goes-on (manifestNumber m expected scratch) (acceptedRefusal m s platform root o room) h
+
+module _ (m s platform root : List ℕ) (o : Options) (room : ℕ) where
+  pub refused-sizing : (sizingOf m platform root o ≡ 0 → ⊥) → acceptedRefusal m s platform root o room ≡ refused (sizingOf m platform root o) 0
+  unfolding acceptedRefusal
+  refused-sizing h = stops (sizingOf m platform root o) (lateRefusal m s (sizeOf m platform root) room) h
+
+  pub sized : sizingOf m platform root o ≡ 0 → acceptedRefusal m s platform root o room ≡ lateRefusal m s (sizeOf m platform root) room
+  unfolding acceptedRefusal
+  sized h = goes-on (sizingOf m platform root o) (lateRefusal m s (sizeOf m platform root) room) h
 
 pub refused-answer : (m : List ℕ) (size other n : ℕ) → (n ≡ 0 → ⊥) → preparedBy m size (refused n 0) ≡ preparedBy m other (refused n 0)
 unfolding preparedBy
@@ -101,15 +109,16 @@ refused-cache m s platform root d n h = sym (is-other (refused n 0) (cacheOf m s
 
 -- what is prepared has passed all tests
 pub record Ready (m : List ℕ) (expected room : ℕ) (s platform root : List ℕ) (o : Options) (lent : ℕ) : Type 0 where
-  pub number : sizeNumber m expected room platform root o ≡ 0
+  pub number : manifestNumber m expected room ≡ 0
   pub library : Passed m expected room platform root o
   pub fits : sizeOf m platform root ≤ lent
   pub records : badRow m s ≡ rowsOf m
 
 pub ready : (m : List ℕ) (expected room : ℕ) (s platform root : List ℕ) (o : Options) (lent : ℕ)
     → prepareRefusal m expected room s platform root o lent .number ≡ 0 → Ready m expected room s platform root o lent
-unfolding prepareRefusal
+unfolding prepareRefusal acceptedRefusal
 ready m expected room s platform root o lent h =
-    let n = none-refused (sizeNumber m expected room platform root o) (lateRefusal m s (sizeOf m platform root) lent) h in
-    let l = late-passed m s (sizeOf m platform root) lent (n .1) in
-    record { number = n .0; library = passed m expected room platform root o (n .0); fits = l .0; records = l .1 }
+    let n = none-refused (manifestNumber m expected room) (acceptedRefusal m s platform root o lent) h in
+    let k = none-refused (sizingOf m platform root o) (lateRefusal m s (sizeOf m platform root) lent) (n .1) in
+    let l = late-passed m s (sizeOf m platform root) lent (k .1) in
+    record { number = n .0; library = record { manifest = accepted m expected room (n .0) .0; sizing = k .0 }; fits = l .0; records = l .1 }

@@ -11,7 +11,8 @@ use Rattle.quantization.specs.Encoder.{midpoints}
 use Rattle.format.specs.Fields.{generationOf, sequenceOf, rowsOf, dimensionsOf}
 use Rattle.geometry.specs.Cache.{identity, cacheBytes}
 use Rattle.geometry.specs.declared.Options.{Options}
-use Rattle.quantized_cache.specs.Size.{sizeOf, sizeNumber}
+use Rattle.manifest.specs.Check.{manifestNumber}
+use Rattle.quantized_cache.specs.Size.{sizingOf, sizeOf}
 use Rattle.rows.specs.Rows.{rowsBytes, recordsRefusal}
 use Rattle.prepare.specs.declared.Info.{Info}
 use Rattle.prepare.specs.declared.Prepared.{Prepared}
@@ -20,9 +21,13 @@ use Rattle.prepare.specs.declared.Prepared.{Prepared}
 unfoldable pub lateRefusal : List ℕ → List ℕ → ℕ → ℕ → Refusal
 lateRefusal m s size room = cond (leb size room) (recordsRefusal m s) (refused 11 0)
 
+-- those of an accepted manifest
+unfoldable pub acceptedRefusal : List ℕ → List ℕ → List ℕ → List ℕ → Options → ℕ → Refusal
+acceptedRefusal m s platform root o room = refusedOr (sizingOf m platform root o) (lateRefusal m s (sizeOf m platform root) room)
+
 unfoldable pub prepareRefusal : List ℕ → ℕ → ℕ → List ℕ → List ℕ → List ℕ → Options → ℕ → Refusal
 prepareRefusal m expected scratch s platform root o room =
-    refusedOr (sizeNumber m expected scratch platform root o) (lateRefusal m s (sizeOf m platform root) room)
+    refusedOr (manifestNumber m expected scratch) (acceptedRefusal m s platform root o room)
 
 -- the cache of a library: version 1, and the rows of the encoder with 127 levels
 unfoldable pub cacheOf : List ℕ → List ℕ → List ℕ → List ℕ → List ℕ

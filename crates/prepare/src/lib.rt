@@ -1,7 +1,7 @@
 // Preparing a cache: quantized_cache.rs's `prepare`, over lent slices. Every test goes before the first store.
 ghost use mathlib.Core.Path.{_≡_};
 ghost use mathlib.Core.Bool.{true};
-ghost use mathlib.Core.List.{_++_};
+ghost use mathlib.Core.List.{_++_, map};
 ghost use Prim.Native.Nat.{_+_, _*_, _≤_};
 ghost use lib.ListN.{length, take, drop};
 ghost use Rattle.quantization.specs.Encoder.{midpoints};
@@ -10,11 +10,13 @@ ghost use Rattle.format.specs.Head.{headNumber};
 ghost use Rattle.format.specs.Plan.{rowsOk};
 ghost use Rattle.crc32.specs.Crc.{crc32};
 ghost use Rattle.le.specs.Le.{bytes, paste};
+ghost use Rattle.manifest.specs.Tiling.{physical};
+ghost use Rattle.manifest.specs.Scratch.{key};
 ghost use Rattle.manifest.specs.Check.{scratchAfter};
 ghost use Rattle.geometry.specs.Cache.{rowLength, Lent};
 ghost use Rattle.quantized_cache.specs.Size.{sizeOf};
 ghost use Rattle.rows.specs.Rows.{rowsBytes, badRow};
-ghost use Rattle.prepare.specs.Prepare.{lateRefusal, prepareRefusal, cacheOf, cacheAfter, infoOf, preparedBy};
+ghost use Rattle.prepare.specs.Prepare.{lateRefusal, acceptedRefusal, prepareRefusal, cacheOf, cacheAfter, infoOf, preparedBy};
 use config::Refusal;
 use geometry::Options;
 
@@ -33,8 +35,8 @@ pub struct Prepared {
 }
 
 // The refusals after sizing's: the cache's room, then the lowest bad record.
-fn late_refusal(m: &[u8], s: &[u8], size: usize, room: usize) -> Refusal
-    requires { ⌜ (headNumber (now m) ≡ 0) × (rowsOk (now m) ≡ true) ⌝ }
+fn late_refusal(m: &[u8], s: &[u8], keys: &[u64], size: usize, room: usize) -> Refusal
+    requires { ⌜ (headNumber (now m) ≡ 0) × (rowsOk (now m) ≡ true) × (now keys ≡ map (key (now m)) (physical (now m))) ⌝ }
     ensures { λ r. ⌜ r ≡ lateRefusal (now (m .entry)) (now (s .entry)) size room ⌝ }
 {
     if room < size {
@@ -45,7 +47,7 @@ fn late_refusal(m: &[u8], s: &[u8], size: usize, room: usize) -> Refusal
     }
     let layout = format::read_layout(m);
     let starts = segment::starts(m, layout);
-    rows::records_refusal(m, layout, &starts, s)
+    rows::records_refusal(m, layout, &starts, s, keys)
 }
 
 // The cache's CRC-32, behind all else.
@@ -115,17 +117,51 @@ fn answer(m: &[u8], size: usize, refusal: Refusal) -> Prepared
     }
 }
 
-// After the manifest and sizing: 11 and 5, and then the stores.
-fn fill(m: &[u8], s: &[u8], platform: &[u8], root: &[u8], cache: &mut [u8], size: usize) -> Refusal
-    requires { ⌜ (headNumber (now m) ≡ 0) × (rowsOk (now m) ≡ true) × (size ≡ sizeOf (now m) (now platform) (now root)) × Lent (now platform) (now root) (now m) size ⌝ }
+// After the manifest and sizing: 11 and 5, and then the stores. `keys` are the rows in the order of their records.
+fn fill(
+    m: &[u8],
+    s: &[u8],
+    keys: &[u64],
+    platform: &[u8],
+    root: &[u8],
+    cache: &mut [u8],
+    size: usize,
+) -> Refusal
+    requires { ⌜ (headNumber (now m) ≡ 0) × (rowsOk (now m) ≡ true) × (now keys ≡ map (key (now m)) (physical (now m))) × (size ≡ sizeOf (now m) (now platform) (now root)) × Lent (now platform) (now root) (now m) size ⌝ }
     ensures { λ r. ⌜ (r ≡ lateRefusal (now (m .entry)) (now (s .entry)) size (length (now (cache .entry)))) × (now (cache .exit) ≡ cacheAfter (now (m .entry)) (now (s .entry)) (now (platform .entry)) (now (root .entry)) r (now (cache .entry))) ⌝ }
 {
-    let refusal = late_refusal(m, s, size, cache.len());
+    let refusal = late_refusal(m, s, keys, size, cache.len());
     if refusal.number != 0 {
         return refusal;
     }
     store(m, s, platform, root, cache, size);
     refusal
+}
+
+// After the manifest.
+fn prepare_accepted(
+    m: &[u8],
+    s: &[u8],
+    keys: &[u64],
+    platform: &[u8],
+    root: &[u8],
+    options: Options,
+    cache: &mut [u8],
+) -> Prepared
+    requires { ⌜ (headNumber (now m) ≡ 0) × (rowsOk (now m) ≡ true) × (now keys ≡ map (key (now m)) (physical (now m))) ⌝ }
+    ensures { λ r. ⌜ (let refusal = acceptedRefusal (now (m .entry)) (now (s .entry)) (now (platform .entry)) (now (root .entry)) options (length (now (cache .entry))) in (r ≡ preparedBy (now (m .entry)) (sizeOf (now (m .entry)) (now (platform .entry)) (now (root .entry))) refusal) × (now (cache .exit) ≡ cacheAfter (now (m .entry)) (now (s .entry)) (now (platform .entry)) (now (root .entry)) refusal (now (cache .entry)))) ⌝ }
+{
+    let number = quantized_cache::sizing(m, platform, root, options);
+    if number != 0 {
+        let early = Refusal {
+            number: number,
+            place: 0,
+        };
+        return answer(m, 0, early);
+    }
+    let size = quantized_cache::size_of(m, platform, root, options);
+    let refusal = fill(m, s, keys, platform, root, cache, size);
+    answer(m, size, refusal)
 }
 
 pub fn prepare(
@@ -141,11 +177,25 @@ pub fn prepare(
     ensures { λ r. ⌜ (let refusal = prepareRefusal (now (manifest .entry)) «expected_crc» (length (now (scratch .entry))) (now (segments .entry)) (now (platform .entry)) (now (root .entry)) options (length (now (cache .entry))) in (r ≡ preparedBy (now (manifest .entry)) (sizeOf (now (manifest .entry)) (now (platform .entry)) (now (root .entry))) refusal) × (now (cache .exit) ≡ cacheAfter (now (manifest .entry)) (now (segments .entry)) (now (platform .entry)) (now (root .entry)) refusal (now (cache .entry)))) ⌝ }
     ensures { λ r. ⌜ now (scratch .exit) ≡ scratchAfter (now (manifest .entry)) «expected_crc» (now (scratch .entry)) ⌝ }
 {
-    let sized = quantized_cache::size(manifest, expected_crc, scratch, platform, root, options);
-    let early = sized.refusal;
-    if early.number != 0 {
+    let number = manifest::accept(manifest, expected_crc, scratch);
+    if number != 0 {
+        let early = Refusal {
+            number: number,
+            place: 0,
+        };
         return answer(manifest, 0, early);
     }
-    let refusal = fill(manifest, segments, platform, root, cache, sized.size);
-    answer(manifest, sized.size, refusal)
+    let layout = format::read_layout(manifest);
+    let rows = layout.rows;
+    let prepared = prepare_accepted(
+        manifest,
+        segments,
+        &scratch[..rows],
+        platform,
+        root,
+        options,
+        cache,
+    );
+    manifest::clear(scratch);
+    prepared
 }

@@ -35,7 +35,8 @@ pub struct Opened {
 
 // ---- Sizing.
 
-fn sizing(m: &[u8], platform: &[u8], root: &[u8], options: Options) -> u32
+// Of an accepted manifest: the number of sizing's first test that fails, or 0.
+pub fn sizing(m: &[u8], platform: &[u8], root: &[u8], options: Options) -> u32
     requires { ⌜ headNumber (now m) ≡ 0 ⌝ }
     ensures { λ r. ⌜ r ≡ sizingOf (now (m .entry)) (now (platform .entry)) (now (root .entry)) options ⌝ }
 {
@@ -70,7 +71,7 @@ fn accept(
 }
 
 // Of a library that sizing lets pass.
-fn size_of(m: &[u8], platform: &[u8], root: &[u8], options: Options) -> usize
+pub fn size_of(m: &[u8], platform: &[u8], root: &[u8], options: Options) -> usize
     requires { ⌜ (headNumber (now m) ≡ 0) × (sizingOf (now m) (now platform) (now root) options ≡ 0) ⌝ }
     ensures { λ r. ⌜ r ≡ sizeOf (now (m .entry)) (now (platform .entry)) (now (root .entry)) ⌝ }
 {

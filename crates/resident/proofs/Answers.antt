@@ -1,31 +1,21 @@
 -- What building answers, by the numbers of its tests. Assumes nothing.
-use mathlib.Core.Path.{_≡_, refl, sym}
+use mathlib.Core.Path.{_≡_, sym}
 use mathlib.Core.List.{List}
 use Prim.Native.Nat.{ℕ, _*_, _≤_}
 use lib.Dec.{leb}
 use borrow.Author.Tests.{leb-true, ne-eqb}
 use Rattle.le.proofs.Chain.{held}
-use Rattle.config.proofs.Refusals.{not-zero, goes-on, stops, none-refused, is-done}
+use Rattle.config.proofs.Refusals.{not-zero, goes-on, stops, none-refused}
 use Rattle.config.specs.Refusal.{refused}
 use Rattle.config.specs.declared.Refusal.{Refusal}
 use Rattle.format.specs.Fields.{dimensionsOf, rowsOf}
-use Rattle.format.specs.Head.{headAt, zeroHead}
 use Rattle.format.specs.declared.Head.{Head}
 use Rattle.format.proofs.Heads.{both}
 use Rattle.geometry.specs.Sizing.{codesOk}
-use Rattle.manifest.specs.Check.{manifestNumber, checkedBy}
+use Rattle.manifest.specs.Check.{manifestNumber}
 use Rattle.resident.specs.Build.{roomOk, roomNumber, plannedRefusal, buildRefusal, answered}
 use Rattle.rows.specs.Rows.{badRow, recordsRefusal}
 use Rattle.rows.proofs.Written.{none-bad}
-
--- ---- what the manifest's check answers
-pub checked-refusal : (m : List ℕ) (f : Refusal) → checkedBy m f .refusal ≡ f
-unfolding checkedBy
-checked-refusal m f = refl
-
-pub checked-head : (m : List ℕ) (f : Refusal) → f .number ≡ 0 → checkedBy m f .head ≡ headAt m
-unfolding checkedBy
-checked-head m f h = is-done f (headAt m) zeroHead h
 
 -- ---- a refusal's answer has nothing of the head
 pub answered-refused : (h k : Head) (f : Refusal) (codes scales norms : ℕ) → (f .number ≡ 0 → ⊥) → answered h f codes scales norms ≡ answered k f codes scales norms

@@ -1,12 +1,15 @@
 // Building a resident index: quantization.rs's `QuantizedSnapshot::build`, into lent slices.
 ghost use mathlib.Core.Path.{_≡_};
 ghost use mathlib.Core.Bool.{true};
+ghost use mathlib.Core.List.{map};
 ghost use Prim.Native.Nat.{_*_, _≤_};
 ghost use lib.ListN.{length};
 ghost use Rattle.format.specs.Fields.{dimensionsOf, rowsOf};
 ghost use Rattle.format.specs.Head.{headNumber};
 ghost use Rattle.format.specs.Plan.{rowsOk};
 ghost use Rattle.format.specs.Layout.{Placed};
+ghost use Rattle.manifest.specs.Tiling.{physical};
+ghost use Rattle.manifest.specs.Scratch.{key};
 ghost use Rattle.manifest.specs.Check.{scratchAfter};
 ghost use Rattle.segment.specs.Record.{Starts};
 ghost use Rattle.quantization.specs.Encoder.{midpoints};
@@ -47,9 +50,9 @@ fn room_number(rows: usize, dimensions: usize, codes: usize, scales: usize, norm
     11
 }
 
-// Of an accepted manifest and the lengths of the slices.
-fn plan(m: &[u8], s: &[u8], codes: usize, scales: usize, norms: usize) -> Refusal
-    requires { ⌜ (headNumber (now m) ≡ 0) × (rowsOk (now m) ≡ true) ⌝ }
+// Of an accepted manifest, its rows in the order of their records, and the lengths of the slices.
+fn plan(m: &[u8], s: &[u8], keys: &[u64], codes: usize, scales: usize, norms: usize) -> Refusal
+    requires { ⌜ (headNumber (now m) ≡ 0) × (rowsOk (now m) ≡ true) × (now keys ≡ map (key (now m)) (physical (now m))) ⌝ }
     ensures { λ r. ⌜ r ≡ plannedRefusal (now (m .entry)) (now (s .entry)) codes scales norms ⌝ }
 {
     let layout = format::read_layout(m);
@@ -61,7 +64,7 @@ fn plan(m: &[u8], s: &[u8], codes: usize, scales: usize, norms: usize) -> Refusa
         };
     }
     let starts = segment::starts(m, layout);
-    rows::records_refusal(m, layout, &starts, s)
+    rows::records_refusal(m, layout, &starts, s, keys)
 }
 
 // ---- The rows.
@@ -133,6 +136,27 @@ fn answer(head: Head, refusal: Refusal, codes: usize, scales: usize, norms: usiz
     }
 }
 
+// After the manifest.
+fn build_accepted(
+    m: &[u8],
+    s: &[u8],
+    keys: &[u64],
+    codes: &mut [i8],
+    scales: &mut [f64],
+    norms: &mut [i64],
+) -> Built
+    requires { ⌜ (headNumber (now m) ≡ 0) × (rowsOk (now m) ≡ true) × (now keys ≡ map (key (now m)) (physical (now m))) ⌝ }
+    ensures { λ r. ⌜ (let refusal = plannedRefusal (now (m .entry)) (now (s .entry)) (length (now (codes .entry))) (length (now (scales .entry))) (length (now (norms .entry))) in (r ≡ builtBy (now (m .entry)) refusal (length (now (codes .entry))) (length (now (scales .entry))) (length (now (norms .entry)))) × (now (codes .exit) ≡ codesAfter (now (m .entry)) (now (s .entry)) refusal (now (codes .entry))) × (now (scales .exit) ≡ scalesAfter (now (m .entry)) (now (s .entry)) refusal (now (scales .entry))) × (now (norms .exit) ≡ normsAfter (now (m .entry)) (now (s .entry)) refusal (now (norms .entry)))) ⌝ }
+{
+    let head = format::read_head(m);
+    let refusal = plan(m, s, keys, codes.len(), scales.len(), norms.len());
+    if refusal.number != 0 {
+        return answer(head, refusal, codes.len(), scales.len(), norms.len());
+    }
+    store(m, s, codes, scales, norms);
+    answer(head, refusal, codes.len(), scales.len(), norms.len())
+}
+
 pub fn build(
     manifest: &[u8],
     expected_crc: u32,
@@ -144,16 +168,18 @@ pub fn build(
 ) -> Built
     ensures { λ r. ⌜ (let refusal = buildRefusal (now (manifest .entry)) «expected_crc» (length (now (scratch .entry))) (now (segments .entry)) (length (now (codes .entry))) (length (now (scales .entry))) (length (now (norms .entry))) in (r ≡ builtBy (now (manifest .entry)) refusal (length (now (codes .entry))) (length (now (scales .entry))) (length (now (norms .entry)))) × (now (scratch .exit) ≡ scratchAfter (now (manifest .entry)) «expected_crc» (now (scratch .entry))) × (now (codes .exit) ≡ codesAfter (now (manifest .entry)) (now (segments .entry)) refusal (now (codes .entry))) × (now (scales .exit) ≡ scalesAfter (now (manifest .entry)) (now (segments .entry)) refusal (now (scales .entry))) × (now (norms .exit) ≡ normsAfter (now (manifest .entry)) (now (segments .entry)) refusal (now (norms .entry)))) ⌝ }
 {
-    let checked = manifest::check(manifest, expected_crc, scratch);
-    let first = checked.refusal;
-    let head = checked.head;
-    if first.number != 0 {
-        return answer(head, first, codes.len(), scales.len(), norms.len());
+    let number = manifest::accept(manifest, expected_crc, scratch);
+    if number != 0 {
+        let early = Refusal {
+            number: number,
+            place: 0,
+        };
+        let head = format::zero_head();
+        return answer(head, early, codes.len(), scales.len(), norms.len());
     }
-    let refusal = plan(manifest, segments, codes.len(), scales.len(), norms.len());
-    if refusal.number != 0 {
-        return answer(head, refusal, codes.len(), scales.len(), norms.len());
-    }
-    store(manifest, segments, codes, scales, norms);
-    answer(head, refusal, codes.len(), scales.len(), norms.len())
+    let layout = format::read_layout(manifest);
+    let rows = layout.rows;
+    let built = build_accepted(manifest, segments, &scratch[..rows], codes, scales, norms);
+    manifest::clear(scratch);
+    built
 }

@@ -1,6 +1,7 @@
 // The rows of a library: the lowest bad record, and each record's row, written into its own part of a lent cache.
 ghost use mathlib.Core.Path.{_≡_};
 ghost use mathlib.Core.Bool.{true};
+ghost use mathlib.Core.List.{map};
 ghost use Prim.Native.Nat.{_+_, _*_, _≤_, _<_};
 ghost use lib.ListN.{length};
 ghost use Rattle.le.specs.Le.{paste};
@@ -10,6 +11,8 @@ ghost use Rattle.format.specs.Plan.{rowsOk};
 ghost use Rattle.format.specs.Layout.{Placed};
 ghost use Rattle.quantization.specs.View.{rowBytes};
 ghost use Rattle.quantization.specs.Encoder.{midpoints};
+ghost use Rattle.manifest.specs.Tiling.{physical};
+ghost use Rattle.manifest.specs.Scratch.{key};
 ghost use Rattle.segment.specs.Record.{recordOk, Starts};
 ghost use Rattle.rows.specs.Rows.{rowOf, rowsBytes, badRow, recordsRefusal};
 use config::Metric;
@@ -31,12 +34,37 @@ fn bad_row(m: &[u8], layout: Layout, metric: Metric, starts: &[u64; 1024], s: &[
     row
 }
 
-// 5 for the lowest bad row.
-pub fn records_refusal(m: &[u8], layout: Layout, starts: &[u64; 1024], s: &[u8]) -> Refusal
-    requires { ⌜ (headNumber (now m) ≡ 0) × Placed (now m) layout × (rowsOk (now m) ≡ true) × Starts (now m) (now starts) ⌝ }
+// The same, from the rows in the order of their records: what is read in that order seldom has to be waited for.
+fn lowest_bad(
+    m: &[u8],
+    layout: Layout,
+    metric: Metric,
+    starts: &[u64; 1024],
+    s: &[u8],
+    keys: &[u64],
+) -> usize
+    requires { ⌜ Placed (now m) layout × (metric ≡ metricAt (now m)) × (rowsOk (now m) ≡ true) × Starts (now m) (now starts) × (now keys ≡ map (key (now m)) (physical (now m))) ⌝ }
+    ensures { λ r. ⌜ r ≡ badRow (now (m .entry)) (now (s .entry)) ⌝ }
+{
+    let first = segment::bad_record(m, layout, metric, starts, s, keys);
+    if first == keys.len() {
+        return layout.rows;
+    }
+    bad_row(m, layout, metric, starts, s)
+}
+
+// 5 for the lowest bad row; `keys` are the rows in the order of their records.
+pub fn records_refusal(
+    m: &[u8],
+    layout: Layout,
+    starts: &[u64; 1024],
+    s: &[u8],
+    keys: &[u64],
+) -> Refusal
+    requires { ⌜ (headNumber (now m) ≡ 0) × Placed (now m) layout × (rowsOk (now m) ≡ true) × Starts (now m) (now starts) × (now keys ≡ map (key (now m)) (physical (now m))) ⌝ }
     ensures { λ r. ⌜ r ≡ recordsRefusal (now (m .entry)) (now (s .entry)) ⌝ }
 {
-    let bad = bad_row(m, layout, format::metric(m), starts, s);
+    let bad = lowest_bad(m, layout, format::metric(m), starts, s, keys);
     if bad != layout.rows {
         return Refusal {
             number: 5,

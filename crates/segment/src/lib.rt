@@ -108,7 +108,7 @@ pub fn record_holds(
 }
 
 // The first of these keys whose row's record fails, or their count.
-fn bad_record(
+pub fn bad_record(
     m: &[u8],
     layout: Layout,
     metric: Metric,

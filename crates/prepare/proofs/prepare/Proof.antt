@@ -1,67 +1,53 @@
 use borrow.Author.Needs.{needs}
 use native.Mathlib.Omega.{arith}
 use mathlib.Core.Path.{_≡_, sym, ap, _∙_}
-use lib.ListN.{length}
-use borrow.Author.Tests.{eq-eqb}
+use lib.ListN.{length, length-take, replicate}
 use Rattle.config.specs.Refusal.{refused}
-use Rattle.format.proofs.Heads.{bounds}
-use Rattle.quantized_cache.specs.declared.Sized.{Sized}
-use Rattle.quantized_cache.specs.Size.{sizeOf, sizeNumber, sizedBy}
-use Rattle.quantized_cache.proofs.Sizes.{Passed, passed, sizing-in}
-use Rattle.prepare.specs.Prepare.{lateRefusal, prepareRefusal, cacheAfter, preparedBy}
-use Rattle.prepare.proofs.Stored.{early, late, refused-answer, refused-cache}
+use Rattle.config.specs.declared.Refusal.{Refusal}
+use Rattle.manifest.specs.Check.{manifestNumber}
+use Rattle.manifest.proofs.Passed.{Planned, accepted, cleared, left, held-rows}
+use Rattle.quantized_cache.specs.Size.{sizeOf}
+use Rattle.prepare.specs.Prepare.{cacheAfter, preparedBy}
+use Rattle.prepare.proofs.Stored.{refused-manifest, accepted-manifest, refused-answer, refused-cache}
 use Rattle.prepare.proofs.prepare.Statement.{statement}
 use Rattle.prepare.proofs.prepare.Tie as tie
 
+-- the manifest is accepted
+number : (c : tie.Else1) → let b = c .before .before .before .before .before .before .before .before .before .before .before in manifestNumber (b .args .manifest .now) (b .args .expected-crc) (length (b .args .scratch .now)) ≡ 0
+number c = rw (c .before .before .before .accept .ensures .0) at (c .if1 .left)
+
+passed : (c : tie.Else1) → let b = c .before .before .before .before .before .before .before .before .before .before .before in Planned (b .args .manifest .now) (b .args .expected-crc) (length (b .args .scratch .now))
+passed c = let b = c .before .before .before .before .before .before .before .before .before .before .before in accepted (b .args .manifest .now) (b .args .expected-crc) (length (b .args .scratch .now)) (number c) .0
+
 returns : tie.Need-returns
-unfolding sizedBy
 returns c =
-    let b = c .before .before .before .before .before .before .before .before .before .before .before .before .before .before in
+    let b = c .before .before .before .before .before .before .before .before .before .before .before .before in
     let m = b .args .manifest .now in
     let d = b .args .cache .now in
-    let a = c .before .before .before .before .before .before .size .ensures in
-    let n = sizeNumber (b .args .manifest .now) (b .args .expected-crc) (length (b .args .scratch .now)) (b .args .platform .now) (b .args .root .now) (b .args .options) in
-    let h : n ≡ 0 → ⊥ = rw (a .0) at (c .before .if1 .taken) in
-    let e = sym (early (b .args .manifest .now) (b .args .expected-crc) (length (b .args .scratch .now)) (b .args .segments .now) (b .args .platform .now) (b .args .root .now) (b .args .options) (length (b .args .cache .now)) h) in
-    let f = c .before .before .before .before .before .before .size .result .refusal in
-    let g : f ≡ refused n 0 = ap (λ (x : Sized). x .refusal) (a .0) in
+    let n = manifestNumber m (b .args .expected-crc) (length (b .args .scratch .now)) in
     let z = sizeOf m (b .args .platform .now) (b .args .root .now) in
-    ((c .answer .ensures ∙ ap (preparedBy m 0) g ∙ refused-answer m 0 z n h ∙ ap (preparedBy m z) e, refused-cache m (b .args .segments .now) (b .args .platform .now) (b .args .root .now) d n h ∙ ap (λ r. cacheAfter m (b .args .segments .now) (b .args .platform .now) (b .args .root .now) r d) e), a .1)
+    let a = c .before .before .before .before .accept .ensures in
+    let h : n ≡ 0 → ⊥ = rw (a .0) at (c .before .if1 .taken) in
+    let e = sym (refused-manifest m (b .args .expected-crc) (length (b .args .scratch .now)) (b .args .segments .now) (b .args .platform .now) (b .args .root .now) (b .args .options) (length d) h) in
+    ((c .answer .ensures ∙ ap (λ k. preparedBy m 0 (refused k 0)) (a .0) ∙ refused-answer m 0 z n h ∙ ap (preparedBy m z) e, refused-cache m (b .args .segments .now) (b .args .platform .now) (b .args .root .now) d n h ∙ ap (λ (r : Refusal). cacheAfter m (b .args .segments .now) (b .args .platform .now) (b .args .root .now) r d) e), a .1 ∙ left m (b .args .expected-crc) (b .args .scratch .now) h)
 
--- the manifest and sizing let the library pass
-number : (c : tie.Else1) → let b = c .before .before .before .before .before .before .before .before .before .before .before .before .before in sizeNumber (b .args .manifest .now) (b .args .expected-crc) (length (b .args .scratch .now)) (b .args .platform .now) (b .args .root .now) (b .args .options) ≡ 0
-unfolding sizedBy
-number c = rw (c .before .before .before .before .before .size .ensures .0) at (c .if1 .left)
-
-lets : (c : tie.Else1) → let b = c .before .before .before .before .before .before .before .before .before .before .before .before .before in Passed (b .args .manifest .now) (b .args .expected-crc) (length (b .args .scratch .now)) (b .args .platform .now) (b .args .root .now) (b .args .options)
-lets c = let b = c .before .before .before .before .before .before .before .before .before .before .before .before .before in passed (b .args .manifest .now) (b .args .expected-crc) (length (b .args .scratch .now)) (b .args .platform .now) (b .args .root .now) (b .args .options) (number c)
-
-size-is : (c : tie.Else1) → let b = c .before .before .before .before .before .before .before .before .before .before .before .before .before in c .before .before .before .before .before .size .result .size ≡ sizeOf (b .args .manifest .now) (b .args .platform .now) (b .args .root .now)
-unfolding sizedBy
-size-is c =
-    let b = c .before .before .before .before .before .before .before .before .before .before .before .before .before in
-    rw (c .before .before .before .before .before .size .ensures .0, eq-eqb (sizeNumber (b .args .manifest .now) (b .args .expected-crc) (length (b .args .scratch .now)) (b .args .platform .now) (b .args .root .now) (b .args .options)) 0 (number c))
-
-asked : tie.Need-fill-requires
+asked : tie.Need-prepare-accepted-requires
 asked c κs =
+    let d = c .before .before .before in
     let b = c .before .before .before .before .before .before .before .before .before .before .before .before .before .before in
-    let d = c .before in
-    let p = lets d in
-    let z = size-is d in
-    let g = sizing-in (b .args .manifest .now) (b .args .platform .now) (b .args .root .now) (b .args .options) (p .sizing) in
-    let h = bounds (b .args .manifest .now) (p .manifest .head) in
-    (p .manifest .head, p .manifest .rows, z, record { platform-short = g .platform-short; root-short = g .root-short; long = h .long; short = h .short; fits = omega (arith, z) })
+    let p = passed d in
+    (p .head, p .rows, rw (c .before .before .before .before .before .before .accept .ensures .1, c .before .before .read-layout .ensures .rows) (held-rows (b .args .manifest .now) (b .args .expected-crc) (b .args .scratch .now) (number d) .0))
 
 returns-2 : tie.Need-returns-2
 returns-2 c =
-    let b = c .before .before .before .before .before .before .before .before .before .before .before .before .before .before .before .before .before .before in
+    let d = c .before .before .before .before .before .before .before .before .before .before in
+    let b = c .before .before .before .before .before .before .before .before .before .before .before .before .before .before .before .before .before .before .before .before .before in
     let m = b .args .manifest .now in
-    let d = c .before .before .before .before .before in
-    let f = c .before .before .before .fill .ensures in
-    let z = size-is d in
-    let r : c .before .before .before .fill .result ≡ prepareRefusal (b .args .manifest .now) (b .args .expected-crc) (length (b .args .scratch .now)) (b .args .segments .now) (b .args .platform .now) (b .args .root .now) (b .args .options) (length (b .args .cache .now)) =
-    f .0 ∙ ap (λ k. lateRefusal m (b .args .segments .now) k (length (b .args .cache .now))) z ∙ sym (late (b .args .manifest .now) (b .args .expected-crc) (length (b .args .scratch .now)) (b .args .segments .now) (b .args .platform .now) (b .args .root .now) (b .args .options) (length (b .args .cache .now)) (number d)) in
-    ((c .answer2 .ensures ∙ ap (λ k. preparedBy m k (c .before .before .before .fill .result)) z ∙ ap (preparedBy m (sizeOf m (b .args .platform .now) (b .args .root .now))) r, f .1 ∙ ap (λ x. cacheAfter m (b .args .segments .now) (b .args .platform .now) (b .args .root .now) x (b .args .cache .now)) r), c .before .before .before .before .before .before .before .before .before .before .size .ensures .1)
+    let t = b .args .scratch .now in
+    let f = c .before .before .before .before .before .before .prepare-accepted .ensures in
+    let z = sizeOf m (b .args .platform .now) (b .args .root .now) in
+    let e = sym (accepted-manifest m (b .args .expected-crc) (length t) (b .args .segments .now) (b .args .platform .now) (b .args .root .now) (b .args .options) (length (b .args .cache .now)) (number d)) in
+    ((f .0 ∙ ap (preparedBy m z) e, f .1 ∙ ap (λ (r : Refusal). cacheAfter m (b .args .segments .now) (b .args .platform .now) (b .args .root .now) r (b .args .cache .now)) e), c .before .before .clear .ensures ∙ ap (λ n. replicate n 0) (d .before .before .before .accept .kept .1 .1 .0) ∙ cleared m (b .args .expected-crc) t (number d))
 
 pub prepare-spec : {M : Type 1} → statement M
 prepare-spec =
@@ -69,10 +55,13 @@ prepare-spec =
     (tie.spec
     (λ c κs. search needs)
     (λ c κs e. absurd (c .if1 .taken e))
-    (λ c. c .before .before .before .before .before .before .size .kept .1 .1 .0)
+    (λ c. c .before .before .before .before .accept .kept .1 .1 .0)
     returns
+    (λ c κs. passed c .head)
+    (λ c. let p = passed (c .before) in let e = c .before .before .before .before .accept .kept .1 .1 .0 in omega (arith, p .roomy, e, c .read-layout .ensures .rows))
+    (λ c. let p = passed (c .before .before) in let e = c .before .before .before .before .before .accept .kept .1 .1 .0 in simp length-take (omega (arith, p .roomy, e, c .before .read-layout .ensures .rows)))
     asked
-    (λ c κs e. lets (c .before .before .before .before) .manifest .head)
-    (λ c. c .before .before .before .before .before .before .before .before .before .before .size .kept .1 .1 .0)
-    (λ c. c .before .before .before .fill .kept .1 .1 .1 .1 .0)
+    (λ c κs. search needs)
+    (λ c. c .before .before .clear .kept .0 ∙ c .before .before .before .before .before .before .before .before .before .before .before .before .before .accept .kept .1 .1 .0)
+    (λ c. c .before .before .before .before .before .before .prepare-accepted .kept .1 .1 .1 .1 .1 .1 .0)
     returns-2)

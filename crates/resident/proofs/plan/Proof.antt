@@ -9,21 +9,21 @@ use Rattle.resident.proofs.plan.Statement.{statement}
 use Rattle.resident.proofs.plan.Tie as tie
 
 -- the number of the sizes
-number : (c : tie.After-room-number) → let a = c .before .before .before .before .args in
+number : (c : tie.After-room-number) → let a = c .before .before .before .before .before .args in
     c .room-number .result ≡ roomNumber (rowsOf (a .m .now)) (dimensionsOf (a .m .now)) (a .codes) (a .scales) (a .norms)
 number c = rw (c .before .read-layout .ensures .rows, c .before .read-layout .ensures .dimensions) at (c .room-number .ensures)
 
 returns : tie.Need-returns
 unfolding plannedRefusal
 returns c =
-    let a = c .before .before .before .before .before .args in
+    let a = c .before .before .before .before .before .before .args in
     let e = number (c .before) in
     rw (ne-eqb (roomNumber (rowsOf (a .m .now)) (dimensionsOf (a .m .now)) (a .codes) (a .scales) (a .norms)) 0 (rw e at (c .if1 .taken)), e)
 
 returns-2 : tie.Need-returns-2
 unfolding plannedRefusal
 returns-2 c =
-    let a = c .before .before .before .before .before .before .before .before .args in
+    let a = c .before .before .before .before .before .before .before .before .before .args in
     let e = number (c .before .before .before .before) in
     rw (eq-eqb (roomNumber (rowsOf (a .m .now)) (dimensionsOf (a .m .now)) (a .codes) (a .scales) (a .norms)) 0 (rw e at (c .before .before .before .if1 .left))) (c .records-refusal .ensures)
 
@@ -32,6 +32,6 @@ plan-spec = tie.close (tie.spec
     (λ c κs. search needs)
     (λ c κs. let p = c .read-layout .ensures in (omega (arith, p .rows, p .most), omega (arith, p .dimensions, p .high)))
     returns
-    (λ c κs. let b = c .before .before .before .before .before in (c .before .before .read-layout .ensures, lengths-of (b .args .m .now) (b .pre .1)))
-    (λ c κs. let b = c .before .before .before .before .before .before .before in (b .pre .0, c .before .before .before .before .read-layout .ensures, b .pre .1, c .before .starts .ensures))
+    (λ c κs. let b = c .before .before .before .before .before .before in (c .before .before .read-layout .ensures, lengths-of (b .args .m .now) (b .pre .1)))
+    (λ c κs. let b = c .before .before .before .before .before .before .before .before in (b .pre .0, c .before .before .before .before .read-layout .ensures, b .pre .1, c .before .starts .ensures, b .pre .2))
     returns-2)
