@@ -391,16 +391,24 @@ fn same_config(a: Config, b: Config) -> bool
         & (p.byte() == q.byte())
 }
 
-fn same_model(a: [u8; 512], b: [u8; 512]) -> bool
-    ensures { λ r. ⌜ r ≡ sameBytes a b ⌝ }
+// Whether the bytes at a place are these.
+pub fn same_bytes_at(c: &[u8], at: usize, s: &[u8]) -> bool
+    requires { ⌜ at + length (now s) ≤ length (now c) ⌝ }
+    ensures { λ r. ⌜ r ≡ sameBytes (take (length (now (s .entry))) (drop at (now (c .entry)))) (now (s .entry)) ⌝ }
 {
     let mut same = true;
     let mut i = 0;
-    while i < 512 {
-        same = same & (a[i] == b[i]);
+    while i < s.len() {
+        same = same & (c[at + i] == s[i]);
         i += 1;
     }
     same
+}
+
+fn same_model(a: [u8; 512], b: [u8; 512]) -> bool
+    ensures { λ r. ⌜ r ≡ sameBytes a b ⌝ }
+{
+    same_bytes_at(&a, 0, &b)
 }
 
 fn same_fields(a: Head, b: Head) -> bool

@@ -156,24 +156,11 @@ pub fn put_head(cache: &mut [u8], platform: &[u8], root: &[u8], manifest: &[u8])
 
 // ---- Opening.
 
-fn same_bytes_at(cache: &[u8], at: usize, s: &[u8]) -> bool
-    requires { ⌜ at + length (now s) ≤ length (now cache) ⌝ }
-    ensures { λ r. ⌜ r ≡ sameBytes (take (length (now (s .entry))) (drop at (now (cache .entry)))) (now (s .entry)) ⌝ }
-{
-    let mut same = true;
-    let mut i = 0;
-    while i < s.len() {
-        same = same & (cache[at + i] == s[i]);
-        i += 1;
-    }
-    same
-}
-
 fn same_counted_at(cache: &[u8], at: usize, s: &[u8]) -> bool
     requires { ⌜ (at + 4 + length (now s) ≤ length (now cache)) × (length (now s) < 4294967296) ⌝ }
     ensures { λ r. ⌜ r ≡ sameBytes (take (4 + length (now (s .entry))) (drop at (now (cache .entry)))) (counted (now (s .entry))) ⌝ }
 {
-    (le::u32_at(cache, at) as usize == s.len()) & same_bytes_at(cache, at + 4, s)
+    (le::u32_at(cache, at) as usize == s.len()) & format::same_bytes_at(cache, at + 4, s)
 }
 
 // Opening's 13: the identity's length and its bytes.
@@ -188,7 +175,7 @@ fn same_identity(cache: &[u8], platform: &[u8], root: &[u8], manifest: &[u8]) ->
     (le::u32_at(cache, 12) as usize == identity)
         & (same_counted_at(cache, 16, platform)
             & same_counted_at(cache, root_at, root)
-            & same_bytes_at(cache, rest_at, &manifest[8..end]))
+            & format::same_bytes_at(cache, rest_at, &manifest[8..end]))
 }
 
 // Opening's 12: length first, then magic and version.

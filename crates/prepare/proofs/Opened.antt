@@ -37,7 +37,7 @@ use Rattle.geometry.proofs.Opens.{head-opens}
 use Rattle.manifest.specs.Check.{manifestNumber}
 use Rattle.manifest.proofs.Passed.{other-room}
 use Rattle.quantized_cache.specs.Size.{sizeOf, sizingOf, sizeNumber}
-use Rattle.quantized_cache.specs.Open.{rowStart, cachedAt, cachedOk, badRow, sealOk, contentRefusal, openNumber, openRefusal}
+use Rattle.quantized_cache.specs.Open.{rowStart, cachedAt, cachedOk, badRow, sealOk, contentRefusal, openNumber, openRefusal, stateOf, openedBy, opened}
 use Rattle.rows.specs.Rows.{rowOf, joined, rowsBytes, badRow as badRecord}
 use Rattle.prepare.specs.Prepare.{prepareRefusal, cacheOf, cacheAfter}
 use Rattle.quantized_cache.proofs.Sizes.{sizing-in}
@@ -223,3 +223,11 @@ module _ (m : List ℕ) (expected room : ℕ) (s platform root : List ℕ) (o : 
   prepared-rows n i =
       let b = bounds m (ready m expected room s platform root o lent h .library .manifest .head) in
       rw parts (rows-read m s (cacheHead 1 (identity platform root m)) (bytes 4 (crc32 content)) (length-bytes 4 (crc32 content)) (b .high) n i)
+
+  -- all of it, from the entries' outcomes: what preparing leaves of a lent cache, cut to its size, is opened, with the encoder's own rows
+  pub prepared-opened : AllBytes m → AllBytes platform → AllBytes root → (other : ℕ) → rowsOf m ≤ other → (d : List ℕ)
+      → let cache = take (sizeOf m platform root) (cacheAfter m s platform root (prepareRefusal m expected room s platform root o lent) d) in
+      (opened m expected other cache platform root o ≡ record { refusal = none; state = stateOf m cache })
+      × ((n : ℕ) → n < rowsOf m → cachedAt (rowsOf m) (dimensionsOf m) cache n ≡ rowOf 127 midpoints m s n)
+  unfolding openedBy
+  prepared-opened a p r other f d = rw (prepared-slice d, prepared-opens a p r other f) (refl, prepared-rows)
