@@ -72,7 +72,7 @@ fn plan(m: &[u8], s: &[u8], keys: &[u64], codes: usize, scales: usize, norms: us
 fn fill(
     m: &[u8],
     layout: Layout,
-    starts: &[u64; 1024],
+    starts: &[u64; 1025],
     t: &[f64; 127],
     s: &[u8],
     codes: &mut [i8],

@@ -20,7 +20,7 @@ use config::Refusal;
 use format::Layout;
 
 // The lowest row whose record fails, or the row count.
-fn bad_row(m: &[u8], layout: Layout, metric: Metric, starts: &[u64; 1024], s: &[u8]) -> usize
+fn bad_row(m: &[u8], layout: Layout, metric: Metric, starts: &[u64; 1025], s: &[u8]) -> usize
     requires { ⌜ Placed (now m) layout × (metric ≡ metricAt (now m)) × (rowsOk (now m) ≡ true) × Starts (now m) (now starts) ⌝ }
     ensures { λ r. ⌜ r ≡ badRow (now (m .entry)) (now (s .entry)) ⌝ }
 {
@@ -39,7 +39,7 @@ fn lowest_bad(
     m: &[u8],
     layout: Layout,
     metric: Metric,
-    starts: &[u64; 1024],
+    starts: &[u64; 1025],
     s: &[u8],
     keys: &[u64],
 ) -> usize
@@ -57,7 +57,7 @@ fn lowest_bad(
 pub fn records_refusal(
     m: &[u8],
     layout: Layout,
-    starts: &[u64; 1024],
+    starts: &[u64; 1025],
     s: &[u8],
     keys: &[u64],
 ) -> Refusal
@@ -81,7 +81,7 @@ pub fn records_refusal(
 fn put_row(
     m: &[u8],
     layout: Layout,
-    starts: &[u64; 1024],
+    starts: &[u64; 1025],
     t: &[f64; 127],
     s: &[u8],
     part: &mut [u8],
@@ -98,7 +98,7 @@ fn put_row(
 pub fn put_rows(
     m: &[u8],
     layout: Layout,
-    starts: &[u64; 1024],
+    starts: &[u64; 1025],
     t: &[f64; 127],
     s: &[u8],
     cache: &mut [u8],

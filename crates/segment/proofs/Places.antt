@@ -6,7 +6,7 @@ use mathlib.Core.Logic.{⊎-elim}
 use Prim.Native.Nat.{ℕ, zero, suc, _+_, _*_, _≤_, _<_}
 use native.Mathlib.Numerals.{add-one}
 use native.Mathlib.Omega.{arith}
-use lib.ListN.{length, getD, set, length-set, List·getD-map}
+use lib.ListN.{length, getD, set, replicate, length-set, length-replicate, List·getD-map}
 use lib.Seq.{getD-set-same, getD-set-other}
 use Rattle.format.specs.Layout.{Placed}
 use Rattle.format.specs.declared.Layout.{Layout}
@@ -65,18 +65,18 @@ next-start m l p ok {n} {sum} {x} h e f =
     (s, omega (arith, s, q, k, p .few))
 
 pub record Upto (m t : List ℕ) (n : ℕ) : Type 0 where
-  pub size : length t ≡ 1024
-  pub at : (k : ℕ) → k < n → getD t k 0 ≡ startOf m k
+  pub size : length t ≡ 1025
+  pub at : (k : ℕ) → k ≤ n → getD t k 0 ≡ startOf m k
 
-pub upto-none : (m t : List ℕ) → length t ≡ 1024 → Upto m t 0
-upto-none m t e = record { size = e; at = λ k h. absurd (omega arith) }
+pub upto-none : (m : List ℕ) → Upto m (replicate 1025 0) 0
+upto-none m = record { size = length-replicate {A = ℕ} 1025 0; at = λ k h. let e : k ≡ 0 = omega (arith, h) in rw (e, start-none m) }
 
-pub upto-more : {m t : List ℕ} {n sum : ℕ} → n < 1024 → sum ≡ startOf m n → Upto m t n → Upto m (set t n sum) (n + 1)
-upto-more {m} {t} {n} {sum} h e u =
+pub upto-more : {m t : List ℕ} {n sum : ℕ} → n < 1025 → sum ≡ startOf m n → {k : ℕ} → n ≡ k + 1 → Upto m t k → Upto m (set t n sum) n
+upto-more {m} {t} {n} {sum} h e {k} p u =
     record {
       size = length-set t n sum ∙ u .size;
-      at = λ k q. ⊎-elim (λ (l : k < n). getD-set-other t n k sum 0 (λ w. omega (arith, l, w)) ∙ u .at k l)
-          (λ (g : n ≤ k). let f : k ≡ n = omega (arith, g, q) in rw f (getD-set-same t n sum 0 (rw (u .size) h) ∙ e)) (lt-or-le k n);
+      at = λ j q. ⊎-elim (λ (l : j < n). getD-set-other t n j sum 0 (λ w. omega (arith, l, w)) ∙ u .at j (omega (arith, l, p)))
+          (λ (g : n ≤ j). let f : j ≡ n = omega (arith, g, q) in rw f (getD-set-same t n sum 0 (rw (u .size) h) ∙ e)) (lt-or-le j n);
     }
 
 -- the row of the i-th key

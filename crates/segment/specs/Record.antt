@@ -3,7 +3,7 @@
 use mathlib.Core.Path.{_≡_}
 use mathlib.Core.Bool.{Bool, _&&_}
 use mathlib.Core.List.{List}
-use Prim.Native.Nat.{ℕ, zero, suc, _+_, _*_, _<_}
+use Prim.Native.Nat.{ℕ, zero, suc, _+_, _*_, _≤_}
 use lib.Dec.{leb, eqb}
 use lib.ListN.{length, getD, take, drop}
 use Rattle.le.specs.Le.{leAt}
@@ -32,6 +32,6 @@ unfoldable pub recordOk : List ℕ → List ℕ → ℕ → Bool
 recordOk m s r =
     leb (recordAt m r + recordLength m r) (length s) && partsOk (metricAt m) (dimensionsOf m) (idAt m r) (metadataAt m r) s (recordAt m r)
 
--- the starts of the segments, one after the other
+-- the starts of the segments, one after the other, and the end of the last
 pub record Starts (m t : List ℕ) : Type 0 where
-  pub at : (n : ℕ) → n < segmentsOf m → getD t n 0 ≡ startOf m n
+  pub at : (n : ℕ) → n ≤ segmentsOf m → getD t n 0 ≡ startOf m n

@@ -27,36 +27,23 @@ fn wide(x: u32) -> usize
 
 // ---- Where segments and records begin.
 
-pub fn starts(m: &[u8], layout: Layout) -> [u64; 1024]
+// And where the last segment ends.
+pub fn starts(m: &[u8], layout: Layout) -> [u64; 1025]
     requires { ⌜ Placed (now m) layout × (lengthsOk (now m) ≡ true) ⌝ }
     ensures { λ r. ⌜ Starts (now (m .entry)) r ⌝ }
 {
-    let mut starts = [0u64; 1024];
+    let mut starts = [0u64; 1025];
     let mut sum = 0;
     let mut n = 0;
     while n < layout.segments {
-        starts[n] = sum;
         sum += format::segment_length(m, layout, n);
         n += 1;
+        starts[n] = sum;
     }
     starts
 }
 
-// The length of all segments.
-fn total(m: &[u8], layout: Layout) -> u64
-    requires { ⌜ Placed (now m) layout × (lengthsOk (now m) ≡ true) ⌝ }
-    ensures { λ r. ⌜ r ≡ startOf (now (m .entry)) (segmentsOf (now (m .entry))) ⌝ }
-{
-    let mut sum = 0;
-    let mut n = 0;
-    while n < layout.segments {
-        sum += format::segment_length(m, layout, n);
-        n += 1;
-    }
-    sum
-}
-
-pub fn record_at(m: &[u8], layout: Layout, starts: &[u64; 1024], row: usize) -> usize
+pub fn record_at(m: &[u8], layout: Layout, starts: &[u64; 1025], row: usize) -> usize
     requires { ⌜ Placed (now m) layout × (lengthsOk (now m) ≡ true) × Starts (now m) (now starts) × (row < layout .rows) × (entryOk (now m) row ≡ true) ⌝ }
     ensures { λ r. ⌜ r ≡ recordAt (now (m .entry)) row ⌝ }
 {
@@ -91,7 +78,7 @@ pub fn record_holds(
     m: &[u8],
     layout: Layout,
     metric: Metric,
-    starts: &[u64; 1024],
+    starts: &[u64; 1025],
     s: &[u8],
     row: usize,
 ) -> bool
@@ -112,7 +99,7 @@ pub fn bad_record(
     m: &[u8],
     layout: Layout,
     metric: Metric,
-    starts: &[u64; 1024],
+    starts: &[u64; 1025],
     s: &[u8],
     keys: &[u64],
 ) -> usize
@@ -134,7 +121,7 @@ pub fn bad_record(
 fn crc_holds(
     m: &[u8],
     layout: Layout,
-    starts: &[u64; 1024],
+    starts: &[u64; 1025],
     tables: &[u32; 2048],
     s: &[u8],
     n: usize,
@@ -153,7 +140,7 @@ fn rows_refusal(
     m: &[u8],
     layout: Layout,
     metric: Metric,
-    starts: &[u64; 1024],
+    starts: &[u64; 1025],
     tables: &[u32; 2048],
     s: &[u8],
     keys: &[u64],
@@ -181,17 +168,23 @@ fn rows_refusal(
     }
 }
 
-fn in_order(m: &[u8], layout: Layout, metric: Metric, s: &[u8], keys: &[u64]) -> Refusal
-    requires { ⌜ Placed (now m) layout × (metric ≡ metricAt (now m)) × (rowsOk (now m) ≡ true) × (now keys ≡ map (key (now m)) (physical (now m))) × (length (now s) ≡ startOf (now m) (segmentsOf (now m))) ⌝ }
+fn in_order(
+    m: &[u8],
+    layout: Layout,
+    metric: Metric,
+    starts: &[u64; 1025],
+    s: &[u8],
+    keys: &[u64],
+) -> Refusal
+    requires { ⌜ Placed (now m) layout × (metric ≡ metricAt (now m)) × (rowsOk (now m) ≡ true) × Starts (now m) (now starts) × (now keys ≡ map (key (now m)) (physical (now m))) × (length (now s) ≡ startOf (now m) (segmentsOf (now m))) ⌝ }
     ensures { λ r. ⌜ r ≡ inOrder (now (m .entry)) (now (s .entry)) ⌝ }
 {
-    let starts = starts(m, layout);
     let tables = crc32::tables();
     let mut i = 0;
     let mut n = 0;
     while n < layout.segments {
         let j = i + manifest::run(&keys[i..], n);
-        let refusal = rows_refusal(m, layout, metric, &starts, &tables, s, &keys[i..j], n);
+        let refusal = rows_refusal(m, layout, metric, starts, &tables, s, &keys[i..j], n);
         if refusal.number != 0 {
             return refusal;
         }
@@ -209,13 +202,15 @@ fn segments_refusal(m: &[u8], s: &[u8], keys: &[u64]) -> Refusal
     ensures { λ r. ⌜ r ≡ segmentsRefusal (now (m .entry)) (now (s .entry)) ⌝ }
 {
     let layout = format::read_layout(m);
-    if s.len() as u64 != total(m, layout) {
+    let starts = starts(m, layout);
+    let last = layout.segments;
+    if s.len() as u64 != starts[last] {
         return Refusal {
             number: 5,
             place: 0,
         };
     }
-    in_order(m, layout, format::metric(m), s, keys)
+    in_order(m, layout, format::metric(m), &starts, s, keys)
 }
 
 // ---- The check.

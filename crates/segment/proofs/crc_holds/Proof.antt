@@ -18,7 +18,7 @@ lies : (c : tie.After-segment-length)
 lies c =
     let b = c .before .before .before .before in
     let m = b .args .m .now in
-    (b .pre .2 .at (b .args .n) (rw (b .pre .0 .segments) at (b .pre .4)), ends m (b .args .layout) (b .pre .0) (lengths-of m (b .pre .1)) (b .args .n) (length (b .args .s .now)) (b .pre .4) (b .pre .5))
+    (b .pre .2 .at (b .args .n) (omega (arith, b .pre .0 .segments, b .pre .4)), ends m (b .args .layout) (b .pre .0) (lengths-of m (b .pre .1)) (b .args .n) (length (b .args .s .now)) (b .pre .4) (b .pre .5))
 
 returns : tie.Need-returns
 unfolding segmentCrcOk

@@ -1,8 +1,7 @@
 use borrow.Author.Needs.{needs}
 use native.Mathlib.Omega.{arith}
-use mathlib.Core.Path.{_≡_, sym}
-use Prim.Native.Nat.{ℕ, _+_, _-_, _*_, _≤_}
-use lib.ListN.{replicate, length-replicate}
+use mathlib.Core.Path.{_≡_, refl, sym}
+use Prim.Native.Nat.{_+_, _-_, _*_, _≤_, _<_}
 use Rattle.segment.specs.Record.{startOf}
 use Rattle.segment.proofs.Places.{start-none, Upto, upto-none, upto-more, next-start}
 use Rattle.segment.proofs.starts.Statement.{statement}
@@ -22,22 +21,24 @@ more c =
     let b = c .before .before .before .before .before in
     next-start (b .args .m .now) (b .args .layout) (b .pre .0) (b .pre .1) (c .before .if1 .taken) (c .before .before .before .loop .inv .1) (c .segment-length .ensures)
 
+-- one segment more has room
+few : (c : tie.After-segment-length Inv-loop μ-loop) → c .before .before .before .loop .n + 1 < 1025
+few c = let p = c .before .before .before .before .before .pre .0 in omega (arith, c .before .if1 .taken, p .segments, p .few)
+
 pub starts-spec : {M : Type 1} → statement M
 starts-spec =
     tie.close
     (tie.spec
     Inv-loop
     μ-loop
-    (λ c. (search needs, sym (start-none (c .before .args .m .now)), upto-none (c .before .args .m .now) (replicate 1024 0) (length-replicate {A = ℕ} 1024 0)))
-    (λ c. search needs)
-    (λ c. let b = c .before .before .before .before in omega (arith, c .if1 .taken, b .pre .0 .segments, b .pre .0 .few))
+    (λ c. (search needs, sym (start-none (c .before .args .m .now)), upto-none (c .before .args .m .now)))
     (λ c κs. search needs)
     (λ c. let h = more c .1 in omega (arith, h))
     (λ c. search needs)
+    (λ c. let h = few c in omega (arith, h))
+    (λ c. few c)
     (λ c. search needs)
-    (λ c. let L = c .before .before .before .loop in
-    let b = c .before .before .before .before .before in
-    (search needs, more c .0, upto-more (omega (arith, c .before .if1 .taken, b .pre .0 .segments, b .pre .0 .few)) (L .inv .1) (L .inv .2)))
+    (λ c. (search needs, more c .0, upto-more (few c) (more c .0) refl (c .before .before .before .loop .inv .2)))
     (λ c. let L = c .before .before .loop in
     let b = c .before .before .before .before in
     record { at = λ n h. L .inv .2 .at n (omega (arith, h, c .if1 .left, b .pre .0 .segments)) }))
