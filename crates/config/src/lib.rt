@@ -1,6 +1,6 @@
 // Bounds, metric, configuration and the vector test: config.rs, and `EmbeddingSpace::validate` of collection.rs.
 ghost use mathlib.Core.Path.{_≡_};
-ghost use Prim.Native.Nat.{_+_, _*_, _≤_, _<_};
+ghost use Prim.Native.Nat.{_+_, _*_, _≤_};
 ghost use lib.ListN.{length};
 ghost use Rattle.config.specs.Metric.{metricOf, byteOf, isCosine};
 ghost use Rattle.config.specs.Space.{validConfig, noZero, validSpace};

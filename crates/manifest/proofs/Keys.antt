@@ -19,7 +19,7 @@ use Rattle.format.specs.Fields.{rowsOf, segmentAt, offsetAt}
 use Rattle.format.specs.Plan.{rowsOk}
 use Rattle.format.proofs.Entries.{entered}
 use Rattle.manifest.specs.Tiling.{position, physical}
-use Rattle.manifest.specs.Scratch.{key, keySegment, keyRow, ordered}
+use Rattle.manifest.specs.Scratch.{key, keySegment, keyRow, ordered, rowKeys}
 
 pub row-of : (m : List ℕ) (r : ℕ) → r < 1048576 → keyRow (key m r) ≡ r
 unfolding key keyRow
@@ -64,7 +64,7 @@ module _ (m : List ℕ) (ok : rowsOk m ≡ true) (few : rowsOf m ≤ 1000000) wh
   unfolding physical
   in-rows r h = passing-pass (λ r. true) (rowsOf m) r (from-sort (byKey (position m)) r (passing (λ r. true) (rowsOf m)) h) .0
 
-  pub sort-keys : sort leb (map (key m) (passing (λ r. true) (rowsOf m))) ≡ map (key m) (physical m)
+  pub sort-keys : sort leb (map (key m) (passing (λ r. true) (rowsOf m))) ≡ rowKeys m
   unfolding physical
   sort-keys = sort-map (byKey (position m)) leb (key m) (passing (λ r. true) (rowsOf m))
       (λ x y p q. let hx = passing-pass (λ r. true) (rowsOf m) x p .0 in let hy = passing-pass (λ r. true) (rowsOf m) y q .0 in
@@ -78,11 +78,11 @@ length-physical : (m : List ℕ) → length (physical m) ≡ rowsOf m
 unfolding physical
 length-physical m = length-sort (byKey (position m)) (passing (λ r. true) (rowsOf m)) ∙ all-rows (rowsOf m)
 
-length-keys : (m : List ℕ) → length (map (key m) (physical m)) ≡ rowsOf m
+length-keys : (m : List ℕ) → length (rowKeys m) ≡ rowsOf m
 length-keys m = length-map (physical m) (key m) ∙ length-physical m
 
 pub length-ordered : (m t : List ℕ) → rowsOf m ≤ length t → length (ordered m t) ≡ length t
 length-ordered m t h = let e = length-keys m in simp (length-append, length-drop) (omega (arith, e))
 
-pub take-ordered : (m t : List ℕ) → take (rowsOf m) (ordered m t) ≡ map (key m) (physical m)
-take-ordered m t = take-at (map (key m) (physical m)) (drop (rowsOf m) t) (rowsOf m) (length-keys m)
+pub take-ordered : (m t : List ℕ) → take (rowsOf m) (ordered m t) ≡ rowKeys m
+take-ordered m t = take-at (rowKeys m) (drop (rowsOf m) t) (rowsOf m) (length-keys m)

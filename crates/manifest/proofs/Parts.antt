@@ -20,7 +20,7 @@ use Rattle.rank.proofs.Members.{take-map, mem-getD}
 use Rattle.format.specs.Fields.{rowsOf, segmentAt, offsetAt}
 use Rattle.format.specs.Plan.{rowsOk}
 use Rattle.manifest.specs.Tiling.{position, physical, keep, inSegment}
-use Rattle.manifest.specs.Scratch.{key, keySegment, keyRow, run, Below}
+use Rattle.manifest.specs.Scratch.{key, keySegment, keyRow, run, Below, rowKeys}
 use Rattle.manifest.proofs.Keys.{segment-of, row-of, small, near, in-rows}
 
 -- ---- what is kept of a list
@@ -148,7 +148,7 @@ module _ (m : List ℕ) where
         (λ x y i j. segment-rises x y (near m ok few (in-rows m ok few x i)) (near m ok few (in-rows m ok few y j)))
         (ascending-sort (byKey (position m)) (order (position m)) (passing (λ r. true) (rowsOf m)))
 
-    pub held-start : (keys : List ℕ) → keys ≡ map (key m) (physical m) → Held keys 0 0
+    pub held-start : (keys : List ℕ) → keys ≡ rowKeys m → Held keys 0 0
     held-start keys e = record { so = rw (e, keep-all (λ r. leb 0 (segmentAt m r)) (physical m) (λ z i. le-leb 0 (segmentAt m z) (omega arith))) }
 
     in-from : (n r : ℕ) → r ∈ from n → r < rowsOf m
@@ -172,7 +172,7 @@ module _ (m : List ℕ) where
         }
 
     -- the keys of all rows in order
-    pub all-keys : (keys : List ℕ) → keys ≡ map (key m) (physical m) → (map keyRow keys ≡ physical m) × Below (rowsOf m) keys
+    pub all-keys : (keys : List ℕ) → keys ≡ rowKeys m → (map keyRow keys ≡ physical m) × Below (rowsOf m) keys
     all-keys keys e =
         let r : map keyRow keys ≡ physical m = rw e (rows-back (physical m) (in-rows m ok few)) in
         (r, below-of keys (physical m) r (in-rows m ok few))

@@ -1,7 +1,7 @@
 -- What an accepted manifest has passed. Assumes nothing.
 use mathlib.Core.Path.{_≡_}
 use mathlib.Core.Bool.{true, cond}
-use mathlib.Core.List.{List, map}
+use mathlib.Core.List.{List}
 use Prim.Native.Nat.{ℕ, _≤_}
 use lib.Dec.{leb, eqb}
 use lib.ListN.{length, take}
@@ -12,8 +12,8 @@ use Rattle.format.specs.Order.{orElse}
 use Rattle.format.specs.Fields.{rowsOf}
 use Rattle.format.specs.Head.{headNumber}
 use Rattle.format.specs.Plan.{rowsOk, crcOk, planNumber}
-use Rattle.manifest.specs.Tiling.{physical, tiled}
-use Rattle.manifest.specs.Scratch.{key}
+use Rattle.manifest.specs.Tiling.{tiled}
+use Rattle.manifest.specs.Scratch.{rowKeys}
 use Rattle.manifest.proofs.Keys.{take-ordered, length-ordered}
 use Rattle.manifest.specs.Check.{manifestNumber, zeros, scratchAfter, scratchHeld}
 
@@ -64,7 +64,7 @@ left m expected t h =
 
 -- an accepted manifest's scratch begins with its rows in order
 pub held-rows : (m : List ℕ) (expected : ℕ) (t : List ℕ) → manifestNumber m expected (length t) ≡ 0
-    → (take (rowsOf m) (scratchHeld m expected t) ≡ map (key m) (physical m)) × (length (scratchHeld m expected t) ≡ length t)
+    → (take (rowsOf m) (scratchHeld m expected t) ≡ rowKeys m) × (length (scratchHeld m expected t) ≡ length t)
 unfolding manifestNumber scratchHeld
 held-rows m expected t h =
     let a = accepted m expected (length t) h in

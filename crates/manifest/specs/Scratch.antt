@@ -17,9 +17,13 @@ keySegment k = k / 70368744177664
 unfoldable pub keyRow : ℕ → ℕ
 keyRow k = k % 1048576
 
--- the rows in order, and what stood past them
+-- the rows in the order of their records
+abbrev pub rowKeys : List ℕ → List ℕ
+rowKeys m = map (key m) (physical m)
+
+-- and what stood past them
 abbrev pub ordered : List ℕ → List ℕ → List ℕ
-ordered m t = map (key m) (physical m) ++ drop (rowsOf m) t
+ordered m t = rowKeys m ++ drop (rowsOf m) t
 
 -- how many numbers from the first on are of segment n
 unfoldable pub run : ℕ → List ℕ → ℕ

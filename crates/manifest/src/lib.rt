@@ -2,19 +2,17 @@
 ghost use mathlib.Core.Path.{_≡_};
 ghost use mathlib.Core.Bool.{true};
 ghost use mathlib.Core.List.{_++_, map};
-ghost use Prim.Native.Nat.{_+_, _*_, _≤_, _<_};
-ghost use lib.Dec.{eqb};
+ghost use Prim.Native.Nat.{_+_, _≤_, _<_};
 ghost use lib.ListN.{length, drop};
 ghost use Rattle.rank.specs.Rows.{passing};
 ghost use Rattle.format.specs.Fields.{rowsOf};
 ghost use Rattle.format.specs.Head.{headNumber};
-ghost use Rattle.format.specs.Plan.{entryOk, rowsOk};
+ghost use Rattle.format.specs.Plan.{rowsOk};
 ghost use Rattle.format.specs.Layout.{Placed};
-ghost use Rattle.manifest.specs.Tiling.{physical, covers as covered, tiled};
-ghost use Rattle.manifest.specs.Scratch.{key, keySegment, keyRow, ordered, run as runOf, Below};
+ghost use Rattle.manifest.specs.Tiling.{covers as covered, tiled};
+ghost use Rattle.manifest.specs.Scratch.{key, keyRow, rowKeys, ordered, run as runOf, Below};
 ghost use Rattle.manifest.specs.Check.{manifestNumber, checkedBy, checked, zeros, scratchAfter, scratchHeld};
 use config::Refusal;
-use format::Entry;
 use format::Head;
 use format::Layout;
 
@@ -105,7 +103,7 @@ fn covers(m: &[u8], layout: Layout, keys: &[u64], length: u64) -> bool
 }
 
 fn tiles(m: &[u8], layout: Layout, keys: &[u64]) -> bool
-    requires { ⌜ Placed (now m) layout × (rowsOk (now m) ≡ true) × (now keys ≡ map (key (now m)) (physical (now m))) ⌝ }
+    requires { ⌜ Placed (now m) layout × (rowsOk (now m) ≡ true) × (now keys ≡ rowKeys (now m)) ⌝ }
     ensures { λ r. ⌜ r ≡ tiled (now (m .entry)) ⌝ }
 {
     let mut i = 0;

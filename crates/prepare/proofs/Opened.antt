@@ -36,7 +36,7 @@ use Rattle.geometry.proofs.Parts.{length-head, length-cache, length-identity, m
 use Rattle.geometry.proofs.Opens.{head-opens}
 use Rattle.manifest.specs.Check.{manifestNumber}
 use Rattle.manifest.proofs.Passed.{other-room}
-use Rattle.quantized_cache.specs.Size.{sizeOf, sizingOf, sizeNumber}
+use Rattle.quantized_cache.specs.Size.{sizeOf, sizeNumber}
 use Rattle.quantized_cache.specs.Open.{rowStart, cachedAt, cachedOk, badRow, sealOk, contentRefusal, openNumber, openRefusal, stateOf, openedBy, opened}
 use Rattle.rows.specs.Rows.{rowOf, joined, rowsBytes, badRow as badRecord}
 use Rattle.prepare.specs.Prepare.{prepareRefusal, cacheOf, cacheAfter}

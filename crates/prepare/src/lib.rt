@@ -1,7 +1,7 @@
 // Preparing a cache: quantized_cache.rs's `prepare`, over lent slices. Every test goes before the first store.
 ghost use mathlib.Core.Path.{_≡_};
 ghost use mathlib.Core.Bool.{true};
-ghost use mathlib.Core.List.{_++_, map};
+ghost use mathlib.Core.List.{_++_};
 ghost use Prim.Native.Nat.{_+_, _*_, _≤_};
 ghost use lib.ListN.{length, take, drop};
 ghost use Rattle.quantization.specs.Encoder.{midpoints};
@@ -10,8 +10,7 @@ ghost use Rattle.format.specs.Head.{headNumber};
 ghost use Rattle.format.specs.Plan.{rowsOk};
 ghost use Rattle.crc32.specs.Crc.{crc32};
 ghost use Rattle.le.specs.Le.{bytes, paste};
-ghost use Rattle.manifest.specs.Tiling.{physical};
-ghost use Rattle.manifest.specs.Scratch.{key};
+ghost use Rattle.manifest.specs.Scratch.{rowKeys};
 ghost use Rattle.manifest.specs.Check.{scratchAfter};
 ghost use Rattle.geometry.specs.Cache.{rowLength, Lent};
 ghost use Rattle.quantized_cache.specs.Size.{sizeOf};
@@ -36,7 +35,7 @@ pub struct Prepared {
 
 // The refusals after sizing's: the cache's room, then the lowest bad record.
 fn late_refusal(m: &[u8], s: &[u8], keys: &[u64], size: usize, room: usize) -> Refusal
-    requires { ⌜ (headNumber (now m) ≡ 0) × (rowsOk (now m) ≡ true) × (now keys ≡ map (key (now m)) (physical (now m))) ⌝ }
+    requires { ⌜ (headNumber (now m) ≡ 0) × (rowsOk (now m) ≡ true) × (now keys ≡ rowKeys (now m)) ⌝ }
     ensures { λ r. ⌜ r ≡ lateRefusal (now (m .entry)) (now (s .entry)) size room ⌝ }
 {
     if room < size {
@@ -127,7 +126,7 @@ fn fill(
     cache: &mut [u8],
     size: usize,
 ) -> Refusal
-    requires { ⌜ (headNumber (now m) ≡ 0) × (rowsOk (now m) ≡ true) × (now keys ≡ map (key (now m)) (physical (now m))) × (size ≡ sizeOf (now m) (now platform) (now root)) × Lent (now platform) (now root) (now m) size ⌝ }
+    requires { ⌜ (headNumber (now m) ≡ 0) × (rowsOk (now m) ≡ true) × (now keys ≡ rowKeys (now m)) × (size ≡ sizeOf (now m) (now platform) (now root)) × Lent (now platform) (now root) (now m) size ⌝ }
     ensures { λ r. ⌜ (r ≡ lateRefusal (now (m .entry)) (now (s .entry)) size (length (now (cache .entry)))) × (now (cache .exit) ≡ cacheAfter (now (m .entry)) (now (s .entry)) (now (platform .entry)) (now (root .entry)) r (now (cache .entry))) ⌝ }
 {
     let refusal = late_refusal(m, s, keys, size, cache.len());
@@ -148,7 +147,7 @@ fn prepare_accepted(
     options: Options,
     cache: &mut [u8],
 ) -> Prepared
-    requires { ⌜ (headNumber (now m) ≡ 0) × (rowsOk (now m) ≡ true) × (now keys ≡ map (key (now m)) (physical (now m))) ⌝ }
+    requires { ⌜ (headNumber (now m) ≡ 0) × (rowsOk (now m) ≡ true) × (now keys ≡ rowKeys (now m)) ⌝ }
     ensures { λ r. ⌜ (let refusal = acceptedRefusal (now (m .entry)) (now (s .entry)) (now (platform .entry)) (now (root .entry)) options (length (now (cache .entry))) in (r ≡ preparedBy (now (m .entry)) (sizeOf (now (m .entry)) (now (platform .entry)) (now (root .entry))) refusal) × (now (cache .exit) ≡ cacheAfter (now (m .entry)) (now (s .entry)) (now (platform .entry)) (now (root .entry)) refusal (now (cache .entry)))) ⌝ }
 {
     let number = quantized_cache::sizing(m, platform, root, options);

@@ -3,7 +3,7 @@
 ghost use mathlib.Core.Path.{_≡_};
 ghost use mathlib.Core.Bool.{true, false, not};
 ghost use mathlib.Core.List.{map, _++_};
-ghost use Prim.Native.Nat.{_+_, _-_, _*_, _≤_, _<_, _^_};
+ghost use Prim.Native.Nat.{_+_, _-_, _*_, _≤_, _^_};
 ghost use lib.Dec.{T, leb};
 ghost use lib.ListN.{length, drop};
 ghost use lib.Ieee.{binary32, binary64, ofBits, toBits, div, isNan};

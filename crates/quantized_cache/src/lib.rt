@@ -9,7 +9,7 @@ ghost use Rattle.manifest.specs.Check.{scratchAfter};
 ghost use Rattle.geometry.specs.Cache.{identity as identityOf, rowLength};
 ghost use Rattle.geometry.specs.Open.{openNumber as headOpens};
 ghost use Rattle.quantized_cache.specs.Size.{sizingOf, sizeOf, sizeNumber, sized};
-ghost use Rattle.quantized_cache.specs.Open.{badRow, sealOk, contentRefusal, openNumber, openRefusal, openedBy, opened};
+ghost use Rattle.quantized_cache.specs.Open.{badRow, sealOk, contentRefusal, openNumber, openedBy, opened};
 use config::Metric;
 use config::Refusal;
 use format::Head;

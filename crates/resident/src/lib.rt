@@ -1,15 +1,13 @@
 // Building a resident index: quantization.rs's `QuantizedSnapshot::build`, into lent slices.
 ghost use mathlib.Core.Path.{_≡_};
 ghost use mathlib.Core.Bool.{true};
-ghost use mathlib.Core.List.{map};
 ghost use Prim.Native.Nat.{_*_, _≤_};
 ghost use lib.ListN.{length};
 ghost use Rattle.format.specs.Fields.{dimensionsOf, rowsOf};
 ghost use Rattle.format.specs.Head.{headNumber};
 ghost use Rattle.format.specs.Plan.{rowsOk};
 ghost use Rattle.format.specs.Layout.{Placed};
-ghost use Rattle.manifest.specs.Tiling.{physical};
-ghost use Rattle.manifest.specs.Scratch.{key};
+ghost use Rattle.manifest.specs.Scratch.{rowKeys};
 ghost use Rattle.manifest.specs.Check.{scratchAfter};
 ghost use Rattle.segment.specs.Record.{Starts};
 ghost use Rattle.quantization.specs.Encoder.{midpoints};
@@ -52,7 +50,7 @@ fn room_number(rows: usize, dimensions: usize, codes: usize, scales: usize, norm
 
 // Of an accepted manifest, its rows in the order of their records, and the lengths of the slices.
 fn plan(m: &[u8], s: &[u8], keys: &[u64], codes: usize, scales: usize, norms: usize) -> Refusal
-    requires { ⌜ (headNumber (now m) ≡ 0) × (rowsOk (now m) ≡ true) × (now keys ≡ map (key (now m)) (physical (now m))) ⌝ }
+    requires { ⌜ (headNumber (now m) ≡ 0) × (rowsOk (now m) ≡ true) × (now keys ≡ rowKeys (now m)) ⌝ }
     ensures { λ r. ⌜ r ≡ plannedRefusal (now (m .entry)) (now (s .entry)) codes scales norms ⌝ }
 {
     let layout = format::read_layout(m);
@@ -145,7 +143,7 @@ fn build_accepted(
     scales: &mut [f64],
     norms: &mut [i64],
 ) -> Built
-    requires { ⌜ (headNumber (now m) ≡ 0) × (rowsOk (now m) ≡ true) × (now keys ≡ map (key (now m)) (physical (now m))) ⌝ }
+    requires { ⌜ (headNumber (now m) ≡ 0) × (rowsOk (now m) ≡ true) × (now keys ≡ rowKeys (now m)) ⌝ }
     ensures { λ r. ⌜ (let refusal = plannedRefusal (now (m .entry)) (now (s .entry)) (length (now (codes .entry))) (length (now (scales .entry))) (length (now (norms .entry))) in (r ≡ builtBy (now (m .entry)) refusal (length (now (codes .entry))) (length (now (scales .entry))) (length (now (norms .entry)))) × (now (codes .exit) ≡ codesAfter (now (m .entry)) (now (s .entry)) refusal (now (codes .entry))) × (now (scales .exit) ≡ scalesAfter (now (m .entry)) (now (s .entry)) refusal (now (scales .entry))) × (now (norms .exit) ≡ normsAfter (now (m .entry)) (now (s .entry)) refusal (now (norms .entry)))) ⌝ }
 {
     let head = format::read_head(m);

@@ -1,6 +1,6 @@
 // One row against a query: the row test of quantized_cache.rs (`validate_row`) and quantization.rs's `approximate_distance`.
 ghost use mathlib.Core.Path.{_≡_};
-ghost use Prim.Native.Nat.{_+_, _*_, _≤_, _<_};
+ghost use Prim.Native.Nat.{_+_, _≤_};
 ghost use lib.IntN.{natAbs};
 ghost use lib.ListN.{length};
 ghost use lib.Ieee.{binary64, ofInt};

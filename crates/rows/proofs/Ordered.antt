@@ -9,14 +9,14 @@ use Rattle.format.specs.Fields.{rowsOf}
 use Rattle.format.specs.Plan.{rowsOk}
 use Rattle.format.proofs.First.{each-passes, all-pass}
 use Rattle.manifest.specs.Tiling.{physical}
-use Rattle.manifest.specs.Scratch.{key, keyRow}
+use Rattle.manifest.specs.Scratch.{keyRow, rowKeys}
 use Rattle.manifest.proofs.Parts.{of-all, all-keys}
 use Rattle.segment.specs.Record.{recordOk}
 use Rattle.segment.specs.Check.{badRecord}
 use Rattle.rows.specs.Rows.{badRow}
 
 -- where none of them fails, no row does
-pub ordered-good : (m s keys : List ℕ) → rowsOk m ≡ true → rowsOf m ≤ 1000000 → keys ≡ map (key m) (physical m)
+pub ordered-good : (m s keys : List ℕ) → rowsOk m ≡ true → rowsOf m ≤ 1000000 → keys ≡ rowKeys m
     → badRecord m s (map keyRow keys) ≡ length keys → rowsOf m ≡ badRow m s
 ordered-good m s keys ok few k e =
     let r = all-keys m ok few keys k .0 in

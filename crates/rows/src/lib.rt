@@ -1,7 +1,6 @@
 // The rows of a library: the lowest bad record, and each record's row, written into its own part of a lent cache.
 ghost use mathlib.Core.Path.{_≡_};
 ghost use mathlib.Core.Bool.{true};
-ghost use mathlib.Core.List.{map};
 ghost use Prim.Native.Nat.{_+_, _*_, _≤_, _<_};
 ghost use lib.ListN.{length};
 ghost use Rattle.le.specs.Le.{paste};
@@ -11,8 +10,7 @@ ghost use Rattle.format.specs.Plan.{rowsOk};
 ghost use Rattle.format.specs.Layout.{Placed};
 ghost use Rattle.quantization.specs.View.{rowBytes};
 ghost use Rattle.quantization.specs.Encoder.{midpoints};
-ghost use Rattle.manifest.specs.Tiling.{physical};
-ghost use Rattle.manifest.specs.Scratch.{key};
+ghost use Rattle.manifest.specs.Scratch.{rowKeys};
 ghost use Rattle.segment.specs.Record.{recordOk, Starts};
 ghost use Rattle.rows.specs.Rows.{rowOf, rowsBytes, badRow, recordsRefusal};
 use config::Metric;
@@ -43,7 +41,7 @@ fn lowest_bad(
     s: &[u8],
     keys: &[u64],
 ) -> usize
-    requires { ⌜ Placed (now m) layout × (metric ≡ metricAt (now m)) × (rowsOk (now m) ≡ true) × Starts (now m) (now starts) × (now keys ≡ map (key (now m)) (physical (now m))) ⌝ }
+    requires { ⌜ Placed (now m) layout × (metric ≡ metricAt (now m)) × (rowsOk (now m) ≡ true) × Starts (now m) (now starts) × (now keys ≡ rowKeys (now m)) ⌝ }
     ensures { λ r. ⌜ r ≡ badRow (now (m .entry)) (now (s .entry)) ⌝ }
 {
     let first = segment::bad_record(m, layout, metric, starts, s, keys);
@@ -61,7 +59,7 @@ pub fn records_refusal(
     s: &[u8],
     keys: &[u64],
 ) -> Refusal
-    requires { ⌜ (headNumber (now m) ≡ 0) × Placed (now m) layout × (rowsOk (now m) ≡ true) × Starts (now m) (now starts) × (now keys ≡ map (key (now m)) (physical (now m))) ⌝ }
+    requires { ⌜ (headNumber (now m) ≡ 0) × Placed (now m) layout × (rowsOk (now m) ≡ true) × Starts (now m) (now starts) × (now keys ≡ rowKeys (now m)) ⌝ }
     ensures { λ r. ⌜ r ≡ recordsRefusal (now (m .entry)) (now (s .entry)) ⌝ }
 {
     let bad = lowest_bad(m, layout, format::metric(m), starts, s, keys);

@@ -9,8 +9,7 @@ ghost use Rattle.format.specs.Fields.{segmentsOf, metricAt};
 ghost use Rattle.format.specs.Head.{headNumber, lengthsOk};
 ghost use Rattle.format.specs.Plan.{rowsOk, entryOk};
 ghost use Rattle.format.specs.Layout.{Placed};
-ghost use Rattle.manifest.specs.Tiling.{physical};
-ghost use Rattle.manifest.specs.Scratch.{key, keyRow, Below};
+ghost use Rattle.manifest.specs.Scratch.{keyRow, Below, rowKeys};
 ghost use Rattle.manifest.specs.Check.{scratchAfter};
 ghost use Rattle.segment.specs.Record.{startOf, recordAt, partsOk, recordOk, Starts};
 ghost use Rattle.segment.specs.Check.{badRecord, segmentCrcOk, rowsRefusal, inOrder, segmentsRefusal, checkedLibrary};
@@ -176,7 +175,7 @@ fn in_order(
     s: &[u8],
     keys: &[u64],
 ) -> Refusal
-    requires { ⌜ Placed (now m) layout × (metric ≡ metricAt (now m)) × (rowsOk (now m) ≡ true) × Starts (now m) (now starts) × (now keys ≡ map (key (now m)) (physical (now m))) × (length (now s) ≡ startOf (now m) (segmentsOf (now m))) ⌝ }
+    requires { ⌜ Placed (now m) layout × (metric ≡ metricAt (now m)) × (rowsOk (now m) ≡ true) × Starts (now m) (now starts) × (now keys ≡ rowKeys (now m)) × (length (now s) ≡ startOf (now m) (segmentsOf (now m))) ⌝ }
     ensures { λ r. ⌜ r ≡ inOrder (now (m .entry)) (now (s .entry)) ⌝ }
 {
     let tables = crc32::tables();
@@ -198,7 +197,7 @@ fn in_order(
 }
 
 fn segments_refusal(m: &[u8], s: &[u8], keys: &[u64]) -> Refusal
-    requires { ⌜ (headNumber (now m) ≡ 0) × (rowsOk (now m) ≡ true) × (now keys ≡ map (key (now m)) (physical (now m))) ⌝ }
+    requires { ⌜ (headNumber (now m) ≡ 0) × (rowsOk (now m) ≡ true) × (now keys ≡ rowKeys (now m)) ⌝ }
     ensures { λ r. ⌜ r ≡ segmentsRefusal (now (m .entry)) (now (s .entry)) ⌝ }
 {
     let layout = format::read_layout(m);

@@ -1,6 +1,6 @@
 // UTF-8 by the grammar of RFC 3629: what `str::from_utf8` accepts.
 ghost use mathlib.Core.Path.{_≡_};
-ghost use Prim.Native.Nat.{_+_, _<_, _≤_};
+ghost use Prim.Native.Nat.{_<_, _≤_};
 ghost use lib.ListN.{length, drop};
 ghost use Rattle.utf8.specs.Grammar.{one as is-one, two as is-two, three as is-three, four as is-four, tail as is-tail, span as in-span};
 ghost use Rattle.utf8.specs.Utf8.{valid as is-valid, width as width-of, width₁, width₂, width₃};

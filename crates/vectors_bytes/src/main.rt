@@ -1,6 +1,6 @@
 // Vectors of CRC-32 and UTF-8. The input is a row of cases: a kind (0 CRC-32, 1 UTF-8), a length (u32) and that many bytes.
 ghost use mathlib.Core.Path.{_≡_};
-ghost use Prim.Native.Nat.{_+_, _≤_};
+ghost use Prim.Native.Nat.{_≤_};
 ghost use lib.ListN.{length};
 ghost use Rattle.crc32.specs.Tables.{entries, slots};
 

@@ -1,7 +1,6 @@
 use borrow.Author.Needs.{needs}
-use mathlib.Core.Path.{_≡_, sym, ap, _∙_}
+use mathlib.Core.Path.{_≡_, sym, _∙_}
 use lib.ListN.{length}
-use Rattle.config.specs.declared.Refusal.{Refusal}
 use Rattle.config.proofs.Refusals.{is-done, is-other}
 use Rattle.format.specs.Fields.{rowsOf}
 use Rattle.resident.specs.Build.{plannedRefusal, codesUpto, scalesUpto, normsUpto}
