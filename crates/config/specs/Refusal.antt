@@ -14,6 +14,10 @@ refused n p = record { number = n; place = p }
 abbrev pub refusedOr : ℕ → Refusal → Refusal
 refusedOr number rest = cond (eqb number 0) rest (refused number 0)
 
+-- a number at the first of n that fails, `bad`, or where none does what the rest says
+abbrev pub refusedAt : ℕ → ℕ → ℕ → Refusal → Refusal
+refusedAt number bad n rest = cond (eqb bad n) rest (refused number bad)
+
 -- what is answered, or stands in a lent slice: the first where nothing is refused, else the second ("All counts are then 0. Answer slices,
 -- resident slices and the cache are untouched")
 abbrev pub unlessRefused : {A : Type 0} → Refusal → A → A → A

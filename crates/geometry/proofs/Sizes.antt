@@ -1,4 +1,4 @@
--- What sizing's tests say of the numbers, and document 01's case h. Assumes nothing.
+-- What sizing's tests say of the numbers. Assumes nothing.
 use mathlib.Core.Path.{_≡_}
 use mathlib.Core.Bool.{true}
 use Prim.Native.Nat.{ℕ, _+_, _*_, _≤_}

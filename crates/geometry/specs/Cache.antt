@@ -31,12 +31,12 @@ unfoldable pub cacheHead : ℕ → List ℕ → List ℕ
 cacheHead version i = cacheMagic ++ bytes 4 version ++ counted i
 
 -- bytes, and behind them their CRC-32
-abbrev pub sealed : List ℕ → List ℕ
-sealed h = h ++ bytes 4 (crc32 h)
+abbrev pub withCrc : List ℕ → List ℕ
+withCrc h = h ++ bytes 4 (crc32 h)
 
 -- the whole cache
 unfoldable pub cacheBytes : ℕ → List ℕ → List ℕ → List ℕ
-cacheBytes version i rows = sealed (cacheHead version i ++ rows)
+cacheBytes version i rows = withCrc (cacheHead version i ++ rows)
 
 -- "A row is scale f64, norm i64, one signed byte a coordinate"
 abbrev pub rowLength : ℕ → ℕ

@@ -70,15 +70,16 @@ fn place_holds(platform: usize, root: usize) -> bool
     (platform <= MAX_PLATFORM) & (root <= MAX_ROOT)
 }
 
-// Sizing's 8.
-fn codes_hold(rows: usize, dimensions: usize) -> bool
+// Sizing's 8, and building's.
+pub fn codes_hold(rows: usize, dimensions: usize) -> bool
     requires { ⌜ (rows ≤ 1000000) × (dimensions ≤ 4096) ⌝ }
     ensures { λ r. ⌜ r ≡ codesOk rows dimensions ⌝ }
 {
     rows * dimensions <= config::MAX_CODE_BYTES
 }
 
-// The number of the first test of sizing that fails, or 0. The limit includes 8 bytes beside the cache.
+// The number of the first test of sizing that fails, or 0. The limit counts 8 bytes beside the cache, which were
+// the Rust's LEASE file.
 pub fn sizing_number(
     platform: usize,
     root: usize,

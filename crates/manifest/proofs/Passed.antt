@@ -1,16 +1,16 @@
 -- What an accepted manifest has passed. Assumes nothing.
-use mathlib.Core.Path.{_≡_}
+use mathlib.Core.Path.{_≡_, refl}
 use mathlib.Core.Bool.{true, cond}
 use mathlib.Core.List.{List}
-use Prim.Native.Nat.{ℕ, _≤_}
+use Prim.Native.Nat.{ℕ, _+_, _≤_}
 use lib.Dec.{leb, eqb}
 use lib.ListN.{length, take}
 use borrow.Author.Tests.{leb-true, le-leb, eqb-true, eqb-false, eq-eqb}
 use Rattle.le.proofs.Chain.{by, held}
 use Rattle.config.proofs.Refusals.{not-zero}
 use Rattle.format.specs.Order.{orElse}
-use Rattle.format.specs.Fields.{rowsOf}
-use Rattle.format.specs.Head.{headNumber}
+use Rattle.format.specs.Fields.{modelLength, rowsOf}
+use Rattle.format.specs.Head.{opensOk, kindOk, identityOk, countsOk, headNumber}
 use Rattle.format.specs.Plan.{rowsOk, crcOk, planNumber}
 use Rattle.manifest.specs.Tiling.{tiled}
 use Rattle.manifest.specs.Scratch.{rowKeys}
@@ -78,3 +78,30 @@ other-room m expected room other h f =
     let a = accepted m expected room h in
     let p = a .0 in
     rw (eq-eqb (planNumber m expected other) 0 (plans (record { head = p .head; rows = p .rows; crc = p .crc; roomy = f })), a .1)
+
+-- ---- no test of the manifest has the number 5
+pub or-else-not : (a b n : ℕ) → (a ≡ n → ⊥) → (b ≡ n → ⊥) → orElse a b ≡ n → ⊥
+or-else-not a b n f g h = by (eqb a 0) (λ e. g (rw e at h)) (λ e. f (rw e at h))
+
+head-not-5 : (m : List ℕ) → headNumber m ≡ 5 → ⊥
+unfolding headNumber
+head-not-5 m h =
+    let a = held (opensOk m) (eqb-false 1 5 refl) h in
+    let b = held (kindOk m) (eqb-false 2 5 refl) (a .1) in
+    let c = held (leb (53 + modelLength m) (length m)) (eqb-false 1 5 refl) (b .1) in
+    let d = held (identityOk m) (eqb-false 2 5 refl) (c .1) in
+    eqb-false 0 5 refl (held (countsOk m) (eqb-false 1 5 refl) (d .1) .1)
+
+plan-not-5 : (m : List ℕ) (expected room : ℕ) → planNumber m expected room ≡ 5 → ⊥
+unfolding planNumber
+plan-not-5 m expected room h =
+    or-else-not (headNumber m) (cond (rowsOk m) (cond (crcOk m expected) (cond (leb (rowsOf m) room) 0 11) 3) 1) 5 (head-not-5 m)
+    (λ k. let a = held (rowsOk m) (eqb-false 1 5 refl) k in
+    let b = held (crcOk m expected) (eqb-false 3 5 refl) (a .1) in
+    eqb-false 0 5 refl (held (leb (rowsOf m) room) (eqb-false 11 5 refl) (b .1) .1)) h
+
+pub manifest-not-5 : (m : List ℕ) (expected room : ℕ) → manifestNumber m expected room ≡ 5 → ⊥
+unfolding manifestNumber
+manifest-not-5 m expected room h =
+    or-else-not (planNumber m expected room) (cond (tiled m) 0 4) 5 (plan-not-5 m expected room)
+    (λ k. eqb-false 0 5 refl (held (tiled m) (eqb-false 4 5 refl) k .1)) h

@@ -37,8 +37,8 @@ use Rattle.geometry.proofs.Opens.{head-opens}
 use Rattle.manifest.specs.Check.{manifestNumber}
 use Rattle.manifest.proofs.Passed.{other-room}
 use Rattle.quantized_cache.specs.Size.{sizeOf, sizeNumber}
-use Rattle.quantized_cache.specs.Open.{rowStart, cachedAt, cachedOk, badRow, sealOk, contentRefusal, openNumber, openRefusal, stateOf, openedBy, opened}
-use Rattle.rows.specs.Rows.{rowOf, joined, rowsBytes, badRow as badRecord}
+use Rattle.quantized_cache.specs.Open.{rowStart, cachedAt, cachedOk, badRow, cacheCrcOk, contentRefusal, openNumber, openRefusal, stateOf, openedBy, opened}
+use Rattle.rows.specs.Rows.{rowOf, joined, rowsBytes, badRow as lowestBad}
 use Rattle.prepare.specs.Prepare.{prepareRefusal, cacheOf, cacheAfter}
 use Rattle.quantized_cache.proofs.Sizes.{sizing-in}
 use Rattle.quantized_cache.proofs.Opens.{lies, first-start}
@@ -48,9 +48,9 @@ use Rattle.prepare.proofs.Stored.{length-rows, ready}
 
 -- ---- the CRC-32
 
-seal-holds : (x : List ℕ) → AllBytes x → sealOk (x ++ bytes 4 (crc32 x)) ≡ true
-unfolding sealOk
-seal-holds x b =
+crc-holds : (x : List ℕ) → AllBytes x → cacheCrcOk (x ++ bytes 4 (crc32 x)) ≡ true
+unfolding cacheCrcOk
+crc-holds x b =
     let t = bytes 4 (crc32 x) in
     let k = length-bytes 4 (crc32 x) in
     let l : length (x ++ t) - 4 ≡ length x = simp length-append (omega (arith, k)) in
@@ -99,7 +99,7 @@ module _ (m s : List ℕ) where
       ap (λ (z : ℕ). rowAt (dimensionsOf m) cache z) a ∙ ap (λ (x : List ℕ). rowAt (dimensionsOf m) x (length p)) c ∙ row-read n p (r .rest ++ t) h
 
   -- and where no record is bad, every row is valid
-  rows-hold : (front t : List ℕ) → length t ≡ 4 → dimensionsOf m ≤ 4096 → badRecord m s ≡ rowsOf m
+  rows-hold : (front t : List ℕ) → length t ≡ 4 → dimensionsOf m ≤ 4096 → lowestBad m s ≡ rowsOf m
       → badRow (metricAt m) (rowsOf m) (dimensionsOf m) (front ++ rowsBytes 127 midpoints m s (rowsOf m) ++ t) ≡ rowsOf m
   unfolding cachedOk
   rows-hold front t e h b =
@@ -199,7 +199,7 @@ module _ (m : List ℕ) (expected room : ℕ) (s platform root : List ℕ) (o : 
       let b = bounds m (r .library .manifest .head) in
       let t = bytes 4 (crc32 content) in
       let v = rows-hold m s (cacheHead 1 (identity platform root m)) t (length-bytes 4 (crc32 content)) (b .high) (r .records) in
-      rw (parts, eq-eqb (badRow (metricAt m) (rowsOf m) (dimensionsOf m) (content ++ t)) (rowsOf m) v, seal-holds content a)
+      rw (parts, eq-eqb (badRow (metricAt m) (rowsOf m) (dimensionsOf m) (content ++ t)) (rowsOf m) v, crc-holds content a)
 
   -- document 01, Contracts: against "an opener refusing every cache" and "preparation that stores nothing"
   pub prepared-opens : AllBytes m → AllBytes platform → AllBytes root → (other : ℕ) → rowsOf m ≤ other

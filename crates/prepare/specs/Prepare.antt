@@ -37,7 +37,7 @@ cacheOf m s platform root = cacheBytes 1 (identity platform root m) (rowsBytes 1
 unfoldable pub cacheAfter : List ℕ → List ℕ → List ℕ → List ℕ → Refusal → List ℕ → List ℕ
 cacheAfter m s platform root refusal d = unlessRefused refusal (cacheOf m s platform root ++ drop (sizeOf m platform root) d) d
 
--- the Rust's `QuantizedCacheInfo`; "All counts are then 0"
+-- the Rust's `QuantizedCacheInfo`; readings R23: all of it is zero on a refusal
 abbrev pub infoOf : List ℕ → ℕ → Info
 infoOf m size =
     record {

@@ -50,7 +50,7 @@ fn late_refusal(m: &[u8], s: &[u8], keys: &[u64], size: usize, room: usize) -> R
 }
 
 // The cache's CRC-32, behind all else.
-fn seal(cache: &mut [u8], end: usize)
+fn put_crc(cache: &mut [u8], end: usize)
     requires { ⌜ end + 4 ≤ length (now cache) ⌝ }
     ensures { λ r. ⌜ now (cache .exit) ≡ paste (now (cache .entry)) end (bytes 4 (crc32 (take end (now (cache .entry))))) ⌝ }
 {
@@ -77,7 +77,7 @@ fn store(m: &[u8], s: &[u8], platform: &[u8], root: &[u8], cache: &mut [u8], siz
     let at = 16 + geometry::identity_length(platform.len(), root.len(), m.len());
     geometry::put_head(cache, platform, root, m);
     store_rows(m, s, cache, at);
-    seal(cache, size - 4);
+    put_crc(cache, size - 4);
 }
 
 fn info_of(m: &[u8], size: usize) -> Info

@@ -16,7 +16,7 @@ use Rattle.format.specs.Fields.{dimensionsOf, rowsOf}
 use Rattle.config.proofs.Refusals.{not-zero}
 use Rattle.manifest.proofs.Passed.{or-else}
 use Rattle.geometry.specs.Cache.{identity, rowLength}
-use Rattle.geometry.specs.Open.{headOk, openNumber as headNumber}
+use Rattle.geometry.specs.Open.{headOk, openNumber as cacheHeadNumber}
 use Rattle.geometry.specs.declared.Options.{Options}
 use Rattle.geometry.proofs.Opens.{head-long}
 use Rattle.quantized_cache.specs.Size.{sizeOf, sizeNumber}
@@ -60,9 +60,9 @@ pub record HeadPassed (m : List ℕ) (expected room : ℕ) (cache platform root 
 
 pub head-passed : (m : List ℕ) (expected room : ℕ) (cache platform root : List ℕ) (o : Options) → openNumber m expected room cache platform root o ≡ 0
     → HeadPassed m expected room cache platform root o
-unfolding openNumber headNumber
+unfolding openNumber cacheHeadNumber
 head-passed m expected room cache platform root o h =
     let size = sizeOf m platform root in
-    let p = or-else (sizeNumber m expected room platform root o) (headNumber 1 size (identity platform root m) cache) h in
+    let p = or-else (sizeNumber m expected room platform root o) (cacheHeadNumber 1 size (identity platform root m) cache) h in
     let l = head-long 1 size cache (held (headOk 1 size cache) not-zero (p .1) .0) in
     record { library = passed m expected room platform root o (p .0); size = l; rows = rw l (omega arith) }

@@ -8,7 +8,7 @@ use lib.Dec.{eqb}
 use lib.ListN.{length, take}
 use Rattle.le.specs.Le.{leAt}
 use Rattle.crc32.specs.Crc.{crc32}
-use Rattle.config.specs.Refusal.{none, refused, refusedOr, unlessRefused}
+use Rattle.config.specs.Refusal.{none, refused, refusedOr, refusedAt, unlessRefused}
 use Rattle.config.specs.declared.Metric.{Metric}
 use Rattle.config.specs.declared.Refusal.{Refusal}
 use Rattle.quantization.specs.View.{View, rowAt, validRow}
@@ -16,7 +16,7 @@ use Rattle.format.specs.Order.{orElse, firstBad}
 use Rattle.format.specs.Fields.{dimensionsOf, rowsOf, metricAt}
 use Rattle.format.specs.Head.{headAt, zeroHead}
 use Rattle.geometry.specs.Cache.{identity, rowLength}
-use Rattle.geometry.specs.Open.{openNumber as headNumber}
+use Rattle.geometry.specs.Open.{openNumber as cacheHeadNumber}
 use Rattle.geometry.specs.declared.Options.{Options}
 use Rattle.quantized_cache.specs.Size.{sizeOf, sizeNumber}
 use Rattle.quantized_cache.specs.declared.Opened.{Opened}
@@ -39,18 +39,18 @@ abbrev pub badRow : Metric → ℕ → ℕ → List ℕ → ℕ
 badRow metric rows dimensions cache = firstBad (cachedOk metric rows dimensions cache) rows
 
 -- 15: the CRC-32 of all but the last 4 bytes, which hold it
-unfoldable pub sealOk : List ℕ → Bool
-sealOk cache = eqb (crc32 (take (length cache - 4) cache)) (leAt 4 cache (length cache - 4))
+unfoldable pub cacheCrcOk : List ℕ → Bool
+cacheCrcOk cache = eqb (crc32 (take (length cache - 4) cache)) (leAt 4 cache (length cache - 4))
 
 -- the rows, then the CRC-32
 unfoldable pub contentRefusal : Metric → ℕ → ℕ → List ℕ → Refusal
 contentRefusal metric rows dimensions cache =
-    cond (eqb (badRow metric rows dimensions cache) rows) (cond (sealOk cache) none (refused 15 0)) (refused 14 (badRow metric rows dimensions cache))
+    refusedAt 14 (badRow metric rows dimensions cache) rows (cond (cacheCrcOk cache) none (refused 15 0))
 
 -- the number of the first test before the rows that fails, or 0
 unfoldable pub openNumber : List ℕ → ℕ → ℕ → List ℕ → List ℕ → List ℕ → Options → ℕ
 openNumber m expected room cache platform root o =
-    orElse (sizeNumber m expected room platform root o) (headNumber 1 (sizeOf m platform root) (identity platform root m) cache)
+    orElse (sizeNumber m expected room platform root o) (cacheHeadNumber 1 (sizeOf m platform root) (identity platform root m) cache)
 
 unfoldable pub openRefusal : List ℕ → ℕ → ℕ → List ℕ → List ℕ → List ℕ → Options → Refusal
 openRefusal m expected room cache platform root o =

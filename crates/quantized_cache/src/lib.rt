@@ -9,7 +9,7 @@ ghost use Rattle.manifest.specs.Check.{scratchAfter};
 ghost use Rattle.geometry.specs.Cache.{identity as identityOf, rowLength};
 ghost use Rattle.geometry.specs.Open.{openNumber as headOpens};
 ghost use Rattle.quantized_cache.specs.Size.{sizingOf, sizeOf, sizeNumber, sized};
-ghost use Rattle.quantized_cache.specs.Open.{badRow, sealOk, contentRefusal, openNumber, openedBy, opened};
+ghost use Rattle.quantized_cache.specs.Open.{badRow, cacheCrcOk, contentRefusal, openNumber, openedBy, opened};
 use config::Metric;
 use config::Refusal;
 use format::Head;
@@ -138,9 +138,9 @@ fn bad_row(metric: Metric, rows: usize, dimensions: usize, cache: &[u8]) -> usiz
     row
 }
 
-fn seal_holds(cache: &[u8]) -> bool
+fn crc_holds(cache: &[u8]) -> bool
     requires { ⌜ 4 ≤ length (now cache) ⌝ }
-    ensures { λ r. ⌜ r ≡ sealOk (now (cache .entry)) ⌝ }
+    ensures { λ r. ⌜ r ≡ cacheCrcOk (now (cache .entry)) ⌝ }
 {
     let end = cache.len() - 4;
     crc32::crc32(&cache[..end]) == le::u32_at(cache, end)
@@ -158,7 +158,7 @@ fn content_refusal(metric: Metric, rows: usize, dimensions: usize, cache: &[u8])
             place: bad as u64,
         };
     }
-    if seal_holds(cache) {
+    if crc_holds(cache) {
         return Refusal {
             number: 0,
             place: 0,

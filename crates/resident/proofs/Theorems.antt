@@ -2,18 +2,21 @@
 -- refused by 8 or 11 alone. Assumes nothing.
 use mathlib.Core.Path.{_≡_, refl, sym, _∙_}
 use mathlib.Core.List.{List, [], _∷_}
-use Prim.Native.Nat.{ℕ, _<_}
+use Prim.Native.Nat.{ℕ, _≤_, _<_}
+use lib.Dec.{eqb}
 use lib.IntN.{ℤ, pos}
 use lib.ListN.{length, drop}
 use lib.Ieee.{Float}
 use borrow.Author.Tests.{eqb-false}
-use Rattle.le.proofs.Chain.{held}
+use Rattle.le.proofs.Chain.{by, held}
 use Rattle.le.proofs.Pastes.{paste-first}
 use Rattle.float.specs.Values.{zero as nought}
 use Rattle.config.specs.Refusal.{none, refused}
 use Rattle.config.proofs.Refusals.{or-none, is-done}
 use Rattle.format.specs.Fields.{dimensionsOf, rowsOf}
 use Rattle.geometry.specs.Sizing.{codesOk}
+use Rattle.manifest.specs.Check.{manifestNumber}
+use Rattle.manifest.proofs.Passed.{other-room, manifest-not-5}
 use Rattle.segment.specs.Check.{libraryRefusal}
 use Rattle.segment.proofs.Library.{library-accepted, accepted-number}
 use Rattle.rows.specs.Rows.{joined, recordsRefusal}
@@ -55,12 +58,12 @@ planned-accepted : (m s : List ℕ) → recordsRefusal m s ≡ none → (codes s
 unfolding plannedRefusal
 planned-accepted m s h codes scales norms = rw h (or-none (roomNumber (rowsOf m) (dimensionsOf m) codes scales norms))
 
--- building it refuses by 8 or 11 alone, at 0
-pub accepted-built : (m : List ℕ) (expected room : ℕ) (s : List ℕ) → libraryRefusal m expected room s .number ≡ 0 → (codes scales norms : ℕ)
-    → buildRefusal m expected room s codes scales norms ≡ refused (roomNumber (rowsOf m) (dimensionsOf m) codes scales norms) 0
-accepted-built m expected room s h codes scales norms =
+-- building it, with a scratch of at least rows elements, refuses by 8 or 11 alone, at 0
+pub accepted-built : (m : List ℕ) (expected room : ℕ) (s : List ℕ) → libraryRefusal m expected room s .number ≡ 0 → (other : ℕ) → rowsOf m ≤ other
+    → (codes scales norms : ℕ) → buildRefusal m expected other s codes scales norms ≡ refused (roomNumber (rowsOf m) (dimensionsOf m) codes scales norms) 0
+accepted-built m expected room s h other f codes scales norms =
     let a = library-accepted m expected room s h in
-    sym (refused-next m expected room s codes scales norms (accepted-number a)) ∙ planned-accepted m s (all-good m s (a .records)) codes scales norms
+    sym (refused-next m expected other s codes scales norms (other-room m expected room other (accepted-number a) f)) ∙ planned-accepted m s (all-good m s (a .records)) codes scales norms
 
 room-not-5 : (rows dimensions codes scales norms : ℕ) → roomNumber rows dimensions codes scales norms ≡ 5 → ⊥
 unfolding roomNumber
@@ -69,8 +72,11 @@ room-not-5 rows dimensions codes scales norms h =
     let b = held (roomOk rows dimensions codes scales norms) (eqb-false 11 5 refl) (a .1) in
     eqb-false 0 5 refl (b .1)
 
--- and never by 5
-pub never-5 : (m : List ℕ) (expected room : ℕ) (s : List ℕ) → libraryRefusal m expected room s .number ≡ 0 → (codes scales norms : ℕ)
-    → buildRefusal m expected room s codes scales norms .number ≡ 5 → ⊥
-never-5 m expected room s h codes scales norms e =
-    room-not-5 (rowsOf m) (dimensionsOf m) codes scales norms (rw (accepted-built m expected room s h codes scales norms) at e)
+-- and never, whatever CRC-32 is expected and whatever is lent, by 5
+pub never-5 : (m : List ℕ) (expected room : ℕ) (s : List ℕ) → libraryRefusal m expected room s .number ≡ 0 → (crc other codes scales norms : ℕ)
+    → buildRefusal m crc other s codes scales norms .number ≡ 5 → ⊥
+unfolding buildRefusal
+never-5 m expected room s h crc other codes scales norms e =
+    let r = all-good m s (library-accepted m expected room s h .records) in
+    let f = rw (planned-accepted m s r codes scales norms) at e in
+    by (eqb (manifestNumber m crc other) 0) (λ y. room-not-5 (rowsOf m) (dimensionsOf m) codes scales norms (rw y at f)) (λ y. manifest-not-5 m crc other (rw y at f))

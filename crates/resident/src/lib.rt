@@ -38,11 +38,10 @@ fn room_number(rows: usize, dimensions: usize, codes: usize, scales: usize, norm
     requires { ⌜ (rows ≤ 1000000) × (dimensions ≤ 4096) ⌝ }
     ensures { λ r. ⌜ r ≡ roomNumber rows dimensions codes scales norms ⌝ }
 {
-    let wanted = rows * dimensions;
-    if config::MAX_CODE_BYTES < wanted {
+    if !geometry::codes_hold(rows, dimensions) {
         return 8;
     }
-    if (wanted <= codes) & (rows <= scales) & (rows <= norms) {
+    if (rows * dimensions <= codes) & (rows <= scales) & (rows <= norms) {
         return 0;
     }
     11

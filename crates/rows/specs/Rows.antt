@@ -1,11 +1,9 @@
 -- The encoder's own row of each record, over the levels and the midpoints (document 01, The arithmetic, Encoder; The report: "Written and
 -- built by one encoder: from the records lent").
-use mathlib.Core.Bool.{cond}
 use mathlib.Core.List.{List, [], _++_}
 use Prim.Native.Nat.{ℕ, zero, suc, _+_}
-use lib.Dec.{eqb}
 use lib.Ieee.{Float}
-use Rattle.config.specs.Refusal.{none, refused}
+use Rattle.config.specs.Refusal.{none, refusedAt}
 use Rattle.config.specs.declared.Refusal.{Refusal}
 use Rattle.config.specs.Vector.{floatsAt}
 use Rattle.quantization.specs.View.{View, rowBytes}
@@ -36,4 +34,4 @@ badRow m s = firstBad (recordOk m s) (rowsOf m)
 
 -- "5 for the lowest bad row" (What each place turns away, preparing and building)
 unfoldable pub recordsRefusal : List ℕ → List ℕ → Refusal
-recordsRefusal m s = cond (eqb (badRow m s) (rowsOf m)) none (refused 5 (badRow m s))
+recordsRefusal m s = refusedAt 5 (badRow m s) (rowsOf m) none

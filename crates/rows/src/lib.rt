@@ -32,7 +32,7 @@ fn bad_row(m: &[u8], layout: Layout, metric: Metric, starts: &[u64; 1025], s: &[
     row
 }
 
-// The same, from the rows in the order of their records: what is read in that order seldom has to be waited for.
+// The same, with the records read in their own order first: reading them by row misses the processor's caches where ids are random.
 fn lowest_bad(
     m: &[u8],
     layout: Layout,

@@ -20,7 +20,7 @@ returns c =
     let m = b .args .m .now in
     let h = c .before .before .before .before .before .before .before .before .before .before .put-head .ensures in
     let r = c .before .before .before .before .before .before .store-rows .ensures in
-    c .before .before .seal .ensures ∙ rw (r, h) (stored m (b .args .s .now) (b .args .platform .now) (b .args .root .now) d (16 + c .before .before .before .before .before .before .before .before .before .before .before .before .identity-length .result) (b .args .size) (places (c .before .before .before .before .before .before .before .before .before .before .before .before)))
+    c .before .before .put-crc .ensures ∙ rw (r, h) (stored m (b .args .s .now) (b .args .platform .now) (b .args .root .now) d (16 + c .before .before .before .before .before .before .before .before .before .before .before .before .identity-length .result) (b .args .size) (places (c .before .before .before .before .before .before .before .before .before .before .before .before)))
 
 pub store-spec : {M : Type 1} → statement M
 store-spec =
@@ -40,5 +40,5 @@ store-spec =
     let k = c .before .before .before .store-rows .kept .1 .1 .0 in
     let j = c .before .before .before .before .before .before .before .put-head .kept .0 in
     omega (arith, k, j, p .long, p .fits))
-    (λ c. c .before .before .seal .kept .0 ∙ c .before .before .before .before .before .before .store-rows .kept .1 .1 .0 ∙ c .before .before .before .before .before .before .before .before .before .before .put-head .kept .0)
+    (λ c. c .before .before .put-crc .kept .0 ∙ c .before .before .before .before .before .before .store-rows .kept .1 .1 .0 ∙ c .before .before .before .before .before .before .before .before .before .before .put-head .kept .0)
     returns)

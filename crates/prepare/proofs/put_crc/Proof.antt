@@ -3,11 +3,11 @@ use native.Mathlib.Omega.{arith}
 use mathlib.Core.Path.{ap, _∙_}
 use lib.ListN.{length-take}
 use Rattle.le.specs.Le.{bytes, paste}
-use Rattle.prepare.proofs.seal.Statement.{statement}
-use Rattle.prepare.proofs.seal.Tie as tie
+use Rattle.prepare.proofs.put_crc.Statement.{statement}
+use Rattle.prepare.proofs.put_crc.Tie as tie
 
-pub seal-spec : {M : Type 1} → statement M
-seal-spec = tie.close (tie.spec
+pub put-crc-spec : {M : Type 1} → statement M
+put-crc-spec = tie.close (tie.spec
     (λ c. search needs)
     (λ c. simp length-take (omega arith))
     (λ c κs. search needs)
