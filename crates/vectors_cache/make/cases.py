@@ -7,10 +7,10 @@ and norms at building; then name, manifest, segments, platform, root and the cac
 
 What is lent: the scratch as 1, 2, 3 ..; the cache's room as its places modulo 251; codes -128, scales -1.5, norms -7.
 
-stdout has these lines for each. A refusal is its number and place; a head is the manifest's length, generation, sequence, dimensions,
-metric byte, segments and rows, or `-` where every field is 0; the scratch ends as kept, zero or changed, the rest of a room past what was
-stored as kept or changed. A sum is a CRC-32; a cache's are two, of all but its last four bytes and of these, as the sum of a whole
-sealed cache is one number for all caches.
+stdout has these lines for each. A refusal is its number and place; a head is the manifest's length, generation, sequence, dimensions, m,
+ef, seed, metric byte, the model's length, the sum of its 512 bytes, segments and rows, or `-` where every field is 0; the scratch ends as
+kept, zero or changed, the rest of a room past what was stored as kept or changed. A sum is a CRC-32; a cache's are two, of all but its
+last four bytes and of these, as the sum of a whole sealed cache is one number for all caches.
 
     case's place in the list, name
     size REFUSAL SIZE SCRATCH
@@ -21,12 +21,16 @@ sealed cache is one number for all caches.
     build REFUSAL LENGTHS HEAD (SUM REST)*3 SCRATCH     of codes, scales and norms
 
 By the Rust: the bytes of every cache are those that it wrote, and codes, scales and norms are cut from its rows; where a case lends another
-platform, root or head of the manifest, the Rust's rows stand behind a head laid out as document 01 has it. Number and place of a refused
-manifest and of opening (12 to 15, or none) are those of `oracle list`, which prints only where the Rust and document 01 written out agree.
+platform, root or head of the manifest, the Rust's rows stand behind a head laid out as document 01 has it.
 
-By document 01's table alone, in `refusals` below: an expected CRC other than the stored one (3), a short scratch (11), sizing (10, 7, 8,
-9), which `oracle list` reaches with the default options only, rooms (11), and a bad record at preparing and building (5), as the Rust
-refuses such a library before it prepares.
+By the Rust and document 01 written out, in `oracle list`, which prints only where they agree: a refused manifest, and opening (12 to 15,
+or none). The Rust's store lies at another path there, so the Rust is lent the cache with its own identity in place of the one that the
+case asks for: an equal one for an equal one, another for any that differs, a wrong length for a wrong one, and a wrong checksum wrong by
+the same bits. Which bytes of an identity count, and all places, are so document 01's alone.
+
+By document 01's table alone, in `refusals` below: an expected CRC other than the stored one (3), a short scratch (11), sizing (10, 7, 9;
+8 takes a manifest too long for a case), which `oracle list` reaches with the default options only, rooms (11), and a bad record at
+preparing and building (5), as the Rust refuses such a library before it prepares.
 """
 import collections
 import dataclasses
@@ -348,7 +352,9 @@ def lines(c):
     head = []
     if 0 in (r.size[0], r.open[0], r.build[0]):
         m = dataclasses.replace(library, manifest=c.manifest)
-        head = [len(m.manifest), m.generation, m.sequence, m.dimensions, m.metric, m.count, m.rows]
+        model = c.manifest[49 : m.counts]
+        head = [len(c.manifest), m.generation, m.sequence, m.dimensions, number(c.manifest, 28, 4), number(c.manifest, 32, 4)]
+        head += [number(c.manifest, 36, 8), m.metric, len(model), "%08x" % zlib.crc32(model.ljust(512, b"\0")), m.count, m.rows]
     opened = lambda refusal, length: ["open", *refusal, *([0, "-"] if refusal[0] else [length, *head]), r.open_kept]
     out = [["size", *r.size, 0 if r.size[0] else r.size_value, r.kept]]
     if r.prepare[0]:

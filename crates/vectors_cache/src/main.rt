@@ -202,11 +202,17 @@ fn print_head(h: Head) {
     }
     let c = h.config;
     let metric = c.metric;
+    let model = h.model;
     size(h.length);
     number(h.generation);
     number(h.sequence);
     size(c.dimensions);
+    size(c.m);
+    size(c.ef_construction);
+    number(c.seed);
     number(wide(metric.byte()));
+    size(h.model_length);
+    sum(&model);
     size(h.segments);
     size(h.rows);
 }
