@@ -1,6 +1,7 @@
 //! Preparing a cache, opening it and building resident rows, over lent buffers (each tests the manifest anew), beside the Rust's
 //! `Snapshot::prepare_quantized_cache`, `quantize_cached` and `quantize` of the same library: each figure is a median of 15 alternated
-//! runs. First both are held to agree: on the cache's bytes, on opening it, and on refusing a changed byte of it.
+//! runs. First both are held to agree: on the cache's bytes, on opening it, and on refusing a changed byte of it; and before all, ours is
+//! held to the bound of rows × dimensions.
 //!
 //! The Rust's snapshot is opened once, before; none of its times includes that, so it does not test the manifest again as ours does. It
 //! works on files: preparing and building read each record by a call of its own, preparing writes the cache in blocks of 64 KiB and syncs
@@ -19,6 +20,7 @@ use vecnook::{
     Error, Metric,
 };
 
+mod bounds;
 #[path = "../library/store.rs"]
 mod store;
 #[path = "../src/timing.rs"]
@@ -333,6 +335,7 @@ fn measure(rows: usize, dimensions: usize, metric: Metric, rising: bool) {
 }
 
 fn main() {
+    bounds::run();
     for (rows, dimensions) in SHAPES {
         for rising in [true, false] {
             measure(rows, dimensions, Metric::SquaredL2, rising);

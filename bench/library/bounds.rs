@@ -1,6 +1,10 @@
 //! The bounds that take megabytes to reach: a manifest and a segment of 64 MiB, a million rows. On each the proved check must give the
 //! number expected, and the Rust the text that goes with it.
-use crate::{ours, sealed, store::Temp, theirs};
+use crate::{
+    ours,
+    store::{crc_of, manifest, sealed, Temp},
+    theirs,
+};
 use std::fs;
 
 /// A manifest of one segment and the segment: rows of zeros with ids from 0, squared L2, `metadata` bytes of it in the last row.
@@ -8,28 +12,14 @@ fn library(rows: usize, dimensions: usize, metadata: usize) -> (Vec<u8>, Vec<u8>
     let (mut segment, mut entries) = (Vec::new(), Vec::new());
     for row in 0..rows {
         let length = if row + 1 == rows { metadata } else { 0 };
-        entries.extend((row as u64).to_le_bytes());
-        entries.extend([0, segment.len() as u32, length as u32].iter().flat_map(|x| x.to_le_bytes()));
+        entries.push([0, segment.len(), length]);
         segment.extend((row as u64).to_le_bytes());
         segment.extend((length as u32).to_le_bytes());
         segment.extend(vec![0; 4 * dimensions]);
         segment.extend(vec![b'm'; length]);
     }
     let segment = sealed(segment);
-    let mut body = b"VECGEN01".to_vec();
-    body.extend(2u64.to_le_bytes());
-    body.extend(0u64.to_le_bytes());
-    body.extend([dimensions as u32, 16, 200].iter().flat_map(|x| x.to_le_bytes()));
-    body.extend(42u64.to_le_bytes());
-    body.push(0);
-    body.extend(1u32.to_le_bytes());
-    body.push(b'm');
-    body.extend(1u32.to_le_bytes());
-    body.extend((rows as u64).to_le_bytes());
-    body.extend((segment.len() as u64).to_le_bytes());
-    body.extend(&segment[segment.len() - 4..]);
-    body.extend(entries);
-    (sealed(body), segment)
+    (manifest(dimensions, &[(segment.len(), crc_of(&segment))], &entries), segment)
 }
 
 fn held(name: &str, manifest: &[u8], segment: &[u8], number: u32, text: Option<&str>) {

@@ -2,7 +2,7 @@
 //! library, which reads files: each figure is a median of 15 alternated runs. First both are held to agree, also on damaged libraries and
 //! at the bounds that take megabytes. The libraries are those of store.rs, under squared L2.
 use std::{fs, io::Read, path::Path};
-use vecnook::{generation::Snapshot, inside::crc32, Error, Metric};
+use vecnook::{generation::Snapshot, Error, Metric};
 
 mod bounds;
 mod store;
@@ -50,11 +50,6 @@ pub fn theirs(root: &Path) -> Option<String> {
         Err(Error::Corrupt(text)) => Some(text),
         Err(other) => panic!("{other}"),
     }
-}
-
-fn sealed(mut body: Vec<u8>) -> Vec<u8> {
-    body.extend(crc32(&body).to_le_bytes());
-    body
 }
 
 /// Both refuse a library of which one byte of the last segment is another, and accept it again as it was.
