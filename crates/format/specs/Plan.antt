@@ -2,10 +2,9 @@
 -- "a short scratch slice gives 11 before the tiling test").
 use mathlib.Core.Bool.{Bool, true, _&&_}
 use mathlib.Core.List.{List}
-use Prim.Native.Nat.{ℕ, zero, suc, _+_, _-_}
+use Prim.Native.Nat.{ℕ, zero, suc, _+_}
 use lib.Dec.{ltb, leb, eqb}
-use lib.ListN.{length, take}
-use Rattle.crc32.specs.Crc.{crc32}
+use Rattle.crc32.specs.Crc.{endsInCrc}
 use Rattle.config.specs.Limits.{maxMetadata}
 use Rattle.format.specs.Order.{unless, orElse, firstBad}
 use Rattle.format.specs.Fields.{segmentsOf, rowsOf, lengthOf, idAt, segmentAt, offsetAt, metadataAt, recordLength, storedCrc}
@@ -31,7 +30,7 @@ unfoldable pub rowsOk : List ℕ → Bool
 rowsOk m = lengthsOk m && eqb (badEntry m) (rowsOf m)
 
 unfoldable pub crcOk : List ℕ → ℕ → Bool
-crcOk m expected = eqb (crc32 (take (length m - 4) m)) (storedCrc m) && eqb (storedCrc m) expected
+crcOk m expected = endsInCrc m && eqb (storedCrc m) expected
 
 -- `room` is the length of the scratch
 unfoldable pub planNumber : List ℕ → ℕ → ℕ → ℕ

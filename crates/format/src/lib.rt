@@ -352,8 +352,7 @@ fn crc_holds(m: &[u8], expected: u32) -> bool
     ensures { λ r. ⌜ r ≡ crcOk (now (m .entry)) expected ⌝ }
 {
     let end = m.len() - 4;
-    let stored = le::u32_at(m, end);
-    (crc32::crc32(&m[..end]) == stored) & (stored == expected)
+    crc32::ends_in_crc(m) & (le::u32_at(m, end) == expected)
 }
 
 // The number of the first test before the tiling that fails, or 0; `room` is the length of the scratch.

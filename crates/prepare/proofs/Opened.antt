@@ -11,12 +11,12 @@ use mir.Val.{ofZ}
 use lib.IntN.{ℤ, pos, negsuc, natAbs}
 use lib.Ieee.{binary64, toBits}
 use lib.ListN.{length, take, drop, length-append}
-use lib.Seq.{take-at, drop-at, take-length}
+use lib.Seq.{take-at}
 use borrow.Author.Tests.{eq-eqb}
-use Rattle.le.specs.Le.{le, bytes}
-use Rattle.le.proofs.LeLaws.{AllBytes, le-bytes-all, length-bytes, bytes-all, append-bytes, take-bytes, drop-bytes}
+use Rattle.le.specs.Le.{bytes}
+use Rattle.le.proofs.LeLaws.{AllBytes, length-bytes, bytes-all, append-bytes, take-bytes, drop-bytes}
 use Rattle.crc32.specs.Crc.{crc32}
-use Rattle.crc32.proofs.Fits.{crc-lt}
+use Rattle.crc32.proofs.Fits.{ends-in-crc}
 use Rattle.config.specs.Refusal.{none}
 use Rattle.config.proofs.Refusals.{goes-on, is-done}
 use Rattle.config.specs.Vector.{floatsAt}
@@ -37,7 +37,7 @@ use Rattle.geometry.proofs.Opens.{head-opens}
 use Rattle.manifest.specs.Check.{manifestNumber}
 use Rattle.manifest.proofs.Passed.{other-room}
 use Rattle.quantized_cache.specs.Size.{sizeOf, sizeNumber}
-use Rattle.quantized_cache.specs.Open.{rowStart, cachedAt, cachedOk, badRow, cacheCrcOk, contentRefusal, openNumber, openRefusal, stateOf, openedBy, opened}
+use Rattle.quantized_cache.specs.Open.{rowStart, cachedAt, cachedOk, badRow, contentRefusal, openNumber, openRefusal, stateOf, openedBy, opened}
 use Rattle.rows.specs.Rows.{rowOf, joined, rowsBytes, badRow as lowestBad}
 use Rattle.prepare.specs.Prepare.{prepareRefusal, cacheOf, cacheAfter}
 use Rattle.quantized_cache.proofs.Sizes.{sizing-in}
@@ -45,18 +45,6 @@ use Rattle.quantized_cache.proofs.Opens.{lies, first-start}
 use Rattle.rows.proofs.Written.{rows-valid}
 use Rattle.rows.proofs.Joined.{rest-of}
 use Rattle.prepare.proofs.Stored.{length-rows, ready}
-
--- ---- the CRC-32
-
-crc-holds : (x : List ℕ) → AllBytes x → cacheCrcOk (x ++ bytes 4 (crc32 x)) ≡ true
-unfolding cacheCrcOk
-crc-holds x b =
-    let t = bytes 4 (crc32 x) in
-    let k = length-bytes 4 (crc32 x) in
-    let l : length (x ++ t) - 4 ≡ length x = simp length-append (omega (arith, k)) in
-    let w : take 4 t ≡ t = ap (λ (n : ℕ). take n t) (sym k) ∙ take-length t in
-    rw (l, take-at x t (length x) refl, drop-at x t (length x) refl)
-    (eq-eqb (crc32 x) (le (take 4 t)) (sym (ap le w ∙ le-bytes-all 4 (crc32 x) (crc-lt x b))))
 
 -- ---- the rows
 
@@ -199,7 +187,7 @@ module _ (m : List ℕ) (expected room : ℕ) (s platform root : List ℕ) (o : 
       let b = bounds m (r .library .manifest .head) in
       let t = bytes 4 (crc32 content) in
       let v = rows-hold m s (cacheHead 1 (identity platform root m)) t (length-bytes 4 (crc32 content)) (b .high) (r .records) in
-      rw (parts, eq-eqb (badRow (metricAt m) (rowsOf m) (dimensionsOf m) (content ++ t)) (rowsOf m) v, crc-holds content a)
+      rw (parts, eq-eqb (badRow (metricAt m) (rowsOf m) (dimensionsOf m) (content ++ t)) (rowsOf m) v, ends-in-crc content a)
 
   -- document 01, Contracts: against "an opener refusing every cache" and "preparation that stores nothing"
   pub prepared-opens : AllBytes m → AllBytes platform → AllBytes root → (other : ℕ) → rowsOf m ≤ other

@@ -4,10 +4,8 @@
 use mathlib.Core.Bool.{Bool, cond}
 use mathlib.Core.List.{List}
 use Prim.Native.Nat.{ℕ, _-_, _*_}
-use lib.Dec.{eqb}
-use lib.ListN.{length, take}
-use Rattle.le.specs.Le.{leAt}
-use Rattle.crc32.specs.Crc.{crc32}
+use lib.ListN.{length}
+use Rattle.crc32.specs.Crc.{endsInCrc}
 use Rattle.config.specs.Refusal.{none, refused, refusedOr, refusedAt, unlessRefused}
 use Rattle.config.specs.declared.Metric.{Metric}
 use Rattle.config.specs.declared.Refusal.{Refusal}
@@ -38,14 +36,10 @@ cachedOk metric rows dimensions cache n = validRow 127 metric (cachedAt rows dim
 abbrev pub badRow : Metric → ℕ → ℕ → List ℕ → ℕ
 badRow metric rows dimensions cache = firstBad (cachedOk metric rows dimensions cache) rows
 
--- 15: the CRC-32 of all but the last 4 bytes, which hold it
-unfoldable pub cacheCrcOk : List ℕ → Bool
-cacheCrcOk cache = eqb (crc32 (take (length cache - 4) cache)) (leAt 4 cache (length cache - 4))
-
--- the rows, then the CRC-32
+-- the rows, then 15
 unfoldable pub contentRefusal : Metric → ℕ → ℕ → List ℕ → Refusal
 contentRefusal metric rows dimensions cache =
-    refusedAt 14 (badRow metric rows dimensions cache) rows (cond (cacheCrcOk cache) none (refused 15 0))
+    refusedAt 14 (badRow metric rows dimensions cache) rows (cond (endsInCrc cache) none (refused 15 0))
 
 -- the number of the first test before the rows that fails, or 0
 unfoldable pub openNumber : List ℕ → ℕ → ℕ → List ℕ → List ℕ → List ℕ → Options → ℕ

@@ -9,7 +9,7 @@ ghost use Rattle.manifest.specs.Check.{scratchAfter};
 ghost use Rattle.geometry.specs.Cache.{identity as identityOf, rowLength};
 ghost use Rattle.geometry.specs.Open.{openNumber as headOpens};
 ghost use Rattle.quantized_cache.specs.Size.{sizingOf, sizeOf, sizeNumber, sized};
-ghost use Rattle.quantized_cache.specs.Open.{badRow, cacheCrcOk, contentRefusal, openNumber, openedBy, opened};
+ghost use Rattle.quantized_cache.specs.Open.{badRow, contentRefusal, openNumber, openedBy, opened};
 use config::Metric;
 use config::Refusal;
 use format::Head;
@@ -138,14 +138,6 @@ fn bad_row(metric: Metric, rows: usize, dimensions: usize, cache: &[u8]) -> usiz
     row
 }
 
-fn crc_holds(cache: &[u8]) -> bool
-    requires { ⌜ 4 ≤ length (now cache) ⌝ }
-    ensures { λ r. ⌜ r ≡ cacheCrcOk (now (cache .entry)) ⌝ }
-{
-    let end = cache.len() - 4;
-    crc32::crc32(&cache[..end]) == le::u32_at(cache, end)
-}
-
 // Opening's 14, then 15.
 fn content_refusal(metric: Metric, rows: usize, dimensions: usize, cache: &[u8]) -> Refusal
     requires { ⌜ (rows ≤ 1000000) × (dimensions ≤ 4096) × (rows * rowLength dimensions + 4 ≤ length (now cache)) ⌝ }
@@ -158,7 +150,7 @@ fn content_refusal(metric: Metric, rows: usize, dimensions: usize, cache: &[u8])
             place: bad as u64,
         };
     }
-    if crc_holds(cache) {
+    if crc32::ends_in_crc(cache) {
         return Refusal {
             number: 0,
             place: 0,

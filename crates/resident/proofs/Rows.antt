@@ -1,5 +1,5 @@
 -- Where a row's codes lie, and what the encoder asks of a good record. Assumes nothing.
-use mathlib.Core.Path.{_≡_, _∙_}
+use mathlib.Core.Path.{_≡_}
 use mathlib.Core.Bool.{true}
 use mathlib.Core.List.{List}
 use Prim.Native.Nat.{ℕ, _+_, _-_, _*_, _≤_, _<_}
@@ -17,16 +17,14 @@ use Rattle.format.specs.declared.Layout.{Layout}
 use Rattle.format.specs.Fields.{dimensionsOf, rowsOf}
 use Rattle.segment.specs.Record.{recordAt}
 use Rattle.quantization.specs.Encoder.{encode, midpoints}
-use Rattle.quantization.proofs.Encoded.{encoded-length, norm-fits}
+use Rattle.quantization.proofs.Encoded.{norm-fits}
 use Rattle.rows.proofs.Joined.{part-ends}
-use Rattle.rows.proofs.Written.{Good}
+use Rattle.rows.proofs.Written.{Good, own-codes}
 use Rattle.resident.specs.Build.{residentRow}
 
 pub length-codes : (m s : List ℕ) (r : ℕ) → length (residentRow m s r .codes) ≡ dimensionsOf m
 unfolding residentRow
-length-codes m s r =
-    let v = floatsAt (dimensionsOf m) s (recordAt m r + 12) in
-    encoded-length 127 midpoints v ∙ length-floats (dimensionsOf m) s (recordAt m r + 12)
+length-codes m s r = own-codes m s r
 
 -- ---- where a row's codes lie
 pub room : {m : List ℕ} {l : Layout} → Placed m l → (n row : ℕ) → row < l .rows → rowsOf m * dimensionsOf m ≤ n

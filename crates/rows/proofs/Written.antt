@@ -1,5 +1,5 @@
 -- What a record that passes gives the encoder, and what the encoder makes of it. Assumes nothing.
-use mathlib.Core.Path.{_≡_}
+use mathlib.Core.Path.{_≡_, _∙_}
 use mathlib.Core.Bool.{true, _&&_}
 use mathlib.Core.List.{List}
 use Prim.Native.Nat.{ℕ, _+_, _*_, _≤_, _<_}
@@ -26,13 +26,11 @@ use Rattle.rows.specs.Rows.{vectorOf, rowOf, badRow, recordsRefusal}
 use borrow.Author.Tests.{eq-eqb}
 
 module _ (m s : List ℕ) where
+  pub own-codes : (n : ℕ) → length (rowOf 127 midpoints m s n .codes) ≡ dimensionsOf m
+  own-codes n = encoded-length 127 midpoints (vectorOf m s n) ∙ length-floats (dimensionsOf m) s (recordAt m n + 12)
+
   pub length-own : (n : ℕ) → length (rowBytes (rowOf 127 midpoints m s n)) ≡ dimensionsOf m + 16
-  length-own n =
-      let r = rowOf 127 midpoints m s n in
-      let e = length-row r in
-      let f = encoded-length 127 midpoints (vectorOf m s n) in
-      let g = length-floats (dimensionsOf m) s (recordAt m n + 12) in
-      omega (arith, e, f, g)
+  length-own n = let e = length-row (rowOf 127 midpoints m s n) in let f = own-codes n in omega (arith, e, f)
 
   pub record Good (r : ℕ) : Type 0 where
     pub inside : recordAt m r + 12 + 4 * dimensionsOf m ≤ length s

@@ -1,6 +1,4 @@
 use borrow.Author.Needs.{needs}
-use native.Mathlib.Omega.{arith}
-use lib.ListN.{length-take}
 use Rattle.format.specs.Fields.{storedCrc}
 use Rattle.format.specs.Plan.{crcOk}
 use Rattle.format.proofs.crc_holds.Statement.{statement}
@@ -8,11 +6,10 @@ use Rattle.format.proofs.crc_holds.Tie as tie
 
 returns : tie.Need-returns
 unfolding crcOk storedCrc
-returns c = rw (c .crc32 .ensures, c .before .before .u32-at .ensures)
+returns c = rw (c .before .ends-in-crc .ensures, c .u32-at .ensures)
 
 pub crc-holds-spec : {M : Type 1} → statement M
 crc-holds-spec = tie.close (tie.spec
     (λ c. search needs)
     (λ c κs. search needs)
-    (λ c. simp length-take (omega arith))
     (λ c κs. search needs) returns)

@@ -26,13 +26,13 @@ returns-2 : tie.Need-returns-2
 unfolding contentRefusal
 returns-2 c =
     let a = c .before .before .before .before .before .args in
-    rw (eq-eqb (badRow (a .metric) (a .rows) (a .dimensions) (a .cache .now)) (a .rows) (none-bad (c .before .before)), ← c .before .crc-holds .ensures, c .if2 .taken)
+    rw (eq-eqb (badRow (a .metric) (a .rows) (a .dimensions) (a .cache .now)) (a .rows) (none-bad (c .before .before)), ← c .before .ends-in-crc .ensures, c .if2 .taken)
 
 returns-3 : tie.Need-returns-3
 unfolding contentRefusal
 returns-3 c =
     let a = c .before .before .before .before .before .args in
-    rw (eq-eqb (badRow (a .metric) (a .rows) (a .dimensions) (a .cache .now)) (a .rows) (none-bad (c .before .before)), ← c .before .crc-holds .ensures, c .if2 .left)
+    rw (eq-eqb (badRow (a .metric) (a .rows) (a .dimensions) (a .cache .now)) (a .rows) (none-bad (c .before .before)), ← c .before .ends-in-crc .ensures, c .if2 .left)
 
 pub content-refusal-spec : {M : Type 1} → statement M
 content-refusal-spec = tie.close (tie.spec
