@@ -9,7 +9,7 @@ use Rattle.float.specs.Values.{zero, one, two}
 use Rattle.config.specs.Refusal.{refused}
 use Rattle.config.specs.declared.Metric.the-variants.{SquaredL2, Cosine, InnerProduct}
 use Rattle.quantization.specs.View.{View}
-use Rattle.quantization.specs.Encoder.{encode, codeOf, midpoints}
+use Rattle.quantization.specs.Encoder.{baseLevels, encode, codeOf, midpoints}
 use Rattle.geometry.specs.Cache.{identityLength, cacheSize}
 use Rattle.geometry.specs.Sizing.{sizingNumber}
 use Rattle.math.specs.Distance.{original}
@@ -30,9 +30,9 @@ minusZero = fin true 0 (pos 0)
 abbrev row : Float → ℕ → List ℤ → View
 row s n cs = record { scale = s; norm = pos n; codes = cs }
 
--- of the base: 127 levels and their midpoints
+-- with the levels and midpoints of the base
 abbrev encoded : List Float → View
-encoded v = encode 127 midpoints v
+encoded v = encode baseLevels midpoints v
 
 -- 1e200
 abbrev large : Float

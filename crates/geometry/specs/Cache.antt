@@ -26,6 +26,10 @@ identity platform root m = counted platform ++ counted root ++ inner m
 abbrev pub identityLength : ℕ → ℕ → ℕ → ℕ
 identityLength platform root m = 4 + platform + (4 + root) + (m - 12)
 
+-- the version of the base
+abbrev pub cacheVersion : ℕ
+cacheVersion = 1
+
 -- what stands before the rows, for a version of the cache
 unfoldable pub cacheHead : ℕ → List ℕ → List ℕ
 cacheHead version i = cacheMagic ++ bytes 4 version ++ counted i

@@ -7,9 +7,9 @@ use lib.Dec.{leb}
 use lib.ListN.{drop}
 use Rattle.config.specs.Refusal.{refused, refusedOr, unlessRefused}
 use Rattle.config.specs.declared.Refusal.{Refusal}
-use Rattle.quantization.specs.Encoder.{midpoints}
+use Rattle.quantization.specs.Encoder.{baseLevels, midpoints}
 use Rattle.format.specs.Fields.{generationOf, sequenceOf, rowsOf, dimensionsOf}
-use Rattle.geometry.specs.Cache.{identity, cacheBytes}
+use Rattle.geometry.specs.Cache.{identity, cacheVersion, cacheBytes}
 use Rattle.geometry.specs.declared.Options.{Options}
 use Rattle.manifest.specs.Check.{manifestNumber}
 use Rattle.quantized_cache.specs.Size.{sizingOf, sizeOf}
@@ -29,9 +29,9 @@ unfoldable pub prepareRefusal : List ℕ → ℕ → ℕ → List ℕ → List �
 prepareRefusal m expected scratch s platform root o room =
     refusedOr (manifestNumber m expected scratch) (acceptedRefusal m s platform root o room)
 
--- the cache of a library: version 1, and the rows of the encoder with 127 levels
+-- the cache of a library, with the base's version and encoder
 unfoldable pub cacheOf : List ℕ → List ℕ → List ℕ → List ℕ → List ℕ
-cacheOf m s platform root = cacheBytes 1 (identity platform root m) (rowsBytes 127 midpoints m s (rowsOf m))
+cacheOf m s platform root = cacheBytes cacheVersion (identity platform root m) (rowsBytes baseLevels midpoints m s (rowsOf m))
 
 -- "bytes past the size stay"; on a refusal all of them
 unfoldable pub cacheAfter : List ℕ → List ℕ → List ℕ → List ℕ → Refusal → List ℕ → List ℕ

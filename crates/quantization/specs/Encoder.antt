@@ -53,5 +53,9 @@ abbrev pub midpointsFrom : ℕ → ℕ → List Float
 midpointsFrom k zero = []
 midpointsFrom k (suc n) = midpoint k ∷ midpointsFrom (suc k) n
 
+-- the level count of the base
+abbrev pub baseLevels : ℕ
+baseLevels = 127
+
 unfoldable pub midpoints : List Float
-midpoints = midpointsFrom 0 127
+midpoints = midpointsFrom 0 baseLevels

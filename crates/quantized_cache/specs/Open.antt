@@ -10,10 +10,11 @@ use Rattle.config.specs.Refusal.{none, refused, refusedOr, refusedAt, unlessRef
 use Rattle.config.specs.declared.Metric.{Metric}
 use Rattle.config.specs.declared.Refusal.{Refusal}
 use Rattle.quantization.specs.View.{View, rowAt, validRow}
+use Rattle.quantization.specs.Encoder.{baseLevels}
 use Rattle.format.specs.Order.{orElse, firstBad}
 use Rattle.format.specs.Fields.{dimensionsOf, rowsOf, metricAt}
 use Rattle.format.specs.Head.{headAt, zeroHead}
-use Rattle.geometry.specs.Cache.{identity, rowLength}
+use Rattle.geometry.specs.Cache.{identity, cacheVersion, rowLength}
 use Rattle.geometry.specs.Open.{openNumber as cacheHeadNumber}
 use Rattle.geometry.specs.declared.Options.{Options}
 use Rattle.quantized_cache.specs.Size.{sizeOf, sizeNumber}
@@ -30,7 +31,7 @@ cachedAt rows dimensions cache n = rowAt dimensions cache (rowStart (length cach
 
 -- 14: document 01, The arithmetic, Row valid
 unfoldable pub cachedOk : Metric → ℕ → ℕ → List ℕ → ℕ → Bool
-cachedOk metric rows dimensions cache n = validRow 127 metric (cachedAt rows dimensions cache n)
+cachedOk metric rows dimensions cache n = validRow baseLevels metric (cachedAt rows dimensions cache n)
 
 -- the lowest invalid row, or the row count
 abbrev pub badRow : Metric → ℕ → ℕ → List ℕ → ℕ
@@ -44,7 +45,7 @@ contentRefusal metric rows dimensions cache =
 -- the number of the first test before the rows that fails, or 0
 unfoldable pub openNumber : List ℕ → ℕ → ℕ → List ℕ → List ℕ → List ℕ → Options → ℕ
 openNumber m expected room cache platform root o =
-    orElse (sizeNumber m expected room platform root o) (cacheHeadNumber 1 (sizeOf m platform root) (identity platform root m) cache)
+    orElse (sizeNumber m expected room platform root o) (cacheHeadNumber cacheVersion (sizeOf m platform root) (identity platform root m) cache)
 
 unfoldable pub openRefusal : List ℕ → ℕ → ℕ → List ℕ → List ℕ → List ℕ → Options → Refusal
 openRefusal m expected room cache platform root o =

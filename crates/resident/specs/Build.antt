@@ -19,7 +19,7 @@ use Rattle.format.specs.declared.Head.{Head}
 use Rattle.geometry.specs.Sizing.{codesOk}
 use Rattle.manifest.specs.Check.{manifestNumber}
 use Rattle.quantization.specs.View.{View}
-use Rattle.quantization.specs.Encoder.{midpoints}
+use Rattle.quantization.specs.Encoder.{baseLevels, midpoints}
 use Rattle.codes.specs.Codes.{part}
 use Rattle.rows.specs.Rows.{rowOf, joined, recordsRefusal}
 use Rattle.resident.specs.declared.State.{State}
@@ -60,7 +60,7 @@ builtBy m refusal codes scales norms = answered (headAt m) refusal codes scales 
 
 -- the encoder's row of the record of row r (document 01, The arithmetic, Encoder)
 unfoldable pub residentRow : List ℕ → List ℕ → ℕ → View
-residentRow m s r = rowOf 127 midpoints m s r
+residentRow m s r = rowOf baseLevels midpoints m s r
 
 -- the codes, scales and norms of the first n rows, and what stood past them (readings R2: "Elements past the rows are neither written nor
 -- tested")
