@@ -2,11 +2,11 @@
 use mathlib.Core.Path.{_≡_, refl, sym, ap, _∙_}
 use mathlib.Core.Bool.{true}
 use mathlib.Core.List.{List, [], _∷_, _++_}
-use Prim.Native.Nat.{ℕ, zero, suc, _-_, _*_, _/_, _%_, _^_, _<_}
+use Prim.Native.Nat.{ℕ, zero, suc, _-_, _*_, _/_, _%_, _^_, _≤_, _<_}
 use native.Mathlib.Omega.{arith}
 use lib.ListN.{length, take, length-append}
 use lib.Seq.{take-at, drop-at, take-length}
-use borrow.Author.Tests.{eq-eqb}
+use borrow.Author.Tests.{le-leb, eq-eqb}
 use lib.Bits.{bitXor, xor-lt}
 use Rattle.le.specs.Le.{le, bytes}
 use Rattle.le.proofs.LeLaws.{AllBytes, le-bytes-all, length-bytes}
@@ -38,5 +38,6 @@ ends-in-crc x b =
     let k = length-bytes 4 (crc32 x) in
     let l : length (x ++ t) - 4 ≡ length x = simp length-append (omega (arith, k)) in
     let w : take 4 t ≡ t = ap (λ (n : ℕ). take n t) (sym k) ∙ take-length t in
-    rw (l, take-at x t (length x) refl, drop-at x t (length x) refl)
+    let h : 4 ≤ length (x ++ t) = simp length-append (omega (arith, k)) in
+    rw (le-leb 4 (length (x ++ t)) h, l, take-at x t (length x) refl, drop-at x t (length x) refl)
     (eq-eqb (crc32 x) (le (take 4 t)) (sym (ap le w ∙ le-bytes-all 4 (crc32 x) (crc-lt x b))))

@@ -1,9 +1,10 @@
 -- A table whose entry k is g k: read, and filled from the front. Assumes nothing.
 use mathlib.Core.Path.{_≡_, refl, ap, _∙_, sym}
 use mathlib.Core.Logic.{⊎-elim}
-use mathlib.Core.List.{List}
+use mathlib.Core.List.{List, [], _∷_, _++_}
 use Prim.Native.Nat.{ℕ, zero, suc, _+_, _<_, _≤_}
 use native.Mathlib.Nat.{add-zero, zero-add, add-suc, suc-add, le-of-suc-le-suc, not-suc-le-zero}
+use native.Mathlib.Numerals.{add-one}
 use native.Mathlib.Omega.{arith}
 use lib.ListN.{length, getD, set, length-set}
 use lib.Seq.{ext-getD, getD-set-same, getD-set-other}
@@ -18,9 +19,17 @@ from g i (suc n) (suc k) h = from g (suc i) n k (le-of-suc-le-suc h) ∙ ap g (s
 pub at : (g : ℕ → ℕ) (n k : ℕ) → k < n → getD (tab g 0 n) k 0 ≡ g k
 at g n k h = from g 0 n k h ∙ ap g (zero-add k)
 
-length-tab : (g : ℕ → ℕ) (i n : ℕ) → length (tab g i n) ≡ n
+pub length-tab : (g : ℕ → ℕ) (i n : ℕ) → length (tab g i n) ≡ n
 length-tab g i zero = refl
 length-tab g i (suc n) = ap suc (length-tab g (suc i) n)
+
+-- one more at the end
+more : (g : ℕ → ℕ) (i n : ℕ) → tab g i (suc n) ≡ tab g i n ++ g (i + n) ∷ []
+more g i zero = rw (add-zero i)
+more g i (suc n) = ap (λ (l : List ℕ). g i ∷ l) (more g (suc i) n ∙ rw (suc-add i n, add-suc i n))
+
+pub tab-more : (g : ℕ → ℕ) (n : ℕ) → tab g 0 (n + 1) ≡ tab g 0 n ++ g n ∷ []
+tab-more g n = ap (tab g 0) (add-one n) ∙ more g 0 n ∙ rw (zero-add n)
 
 module _ {g : ℕ → ℕ} {n : ℕ} where
   pub filled-more : {t : List ℕ} {i v : ℕ} → Filled g n t i → i < n → v ≡ g i → Filled g n (set t i v) (i + 1)

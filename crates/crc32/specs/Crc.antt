@@ -1,10 +1,10 @@
 -- CRC-32 by its definition, a bit a step (document 01, Layouts: "CRC-32 is reflected, polynomial EDB88320 (hexadecimal), start and
 -- final complement").
-use mathlib.Core.Bool.{Bool}
+use mathlib.Core.Bool.{Bool, _&&_}
 use mathlib.Core.List.{List, [], _∷_}
 use Prim.Native.Nat.{ℕ, zero, suc, _-_, _*_, _/_, _%_}
 use lib.Bits.{bitXor}
-use lib.Dec.{eqb}
+use lib.Dec.{leb, eqb}
 use lib.ListN.{length, take}
 use Rattle.le.specs.Le.{leAt}
 
@@ -27,6 +27,6 @@ finish c = bitXor c 0xFFFFFFFF
 unfoldable pub crc32 : List ℕ → ℕ
 crc32 s = finish (update 0xFFFFFFFF s)
 
--- bytes that end in the CRC-32 of all before it (document 01, Layouts: the last field of a manifest and of a cache)
+-- bytes that end in the CRC-32 of all before it (document 01, Layouts: the last field of a manifest and of a cache); under 4 bytes end in none
 unfoldable pub endsInCrc : List ℕ → Bool
-endsInCrc s = eqb (crc32 (take (length s - 4) s)) (leAt 4 s (length s - 4))
+endsInCrc s = leb 4 (length s) && eqb (crc32 (take (length s - 4) s)) (leAt 4 s (length s - 4))

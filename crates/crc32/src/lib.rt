@@ -1,7 +1,6 @@
 // CRC-32: storage.rs's `Crc32`. A caller that sums much makes the tables once and lends them.
 ghost use mathlib.Core.Path.{_≡_};
 ghost use Prim.Native.Nat.{_+_, _*_, _%_, _<_, _≤_};
-ghost use lib.ListN.{length};
 ghost use Rattle.crc32.specs.Crc.{steps, update as updated, finish as complement, crc32 as checksum, endsInCrc};
 ghost use Rattle.crc32.specs.Tables.{entries, slot, slots, Filled};
 
@@ -409,9 +408,11 @@ pub fn crc32(s: &[u8]) -> u32
 
 // Whether the last 4 bytes are the CRC-32 of all before them.
 pub fn ends_in_crc(s: &[u8]) -> bool
-    requires { ⌜ 4 ≤ length (now s) ⌝ }
     ensures { λ r. ⌜ r ≡ endsInCrc (now (s .entry)) ⌝ }
 {
+    if s.len() < 4 {
+        return false;
+    }
     let end = s.len() - 4;
     crc32(&s[..end]) == le::u32_at(s, end)
 }
