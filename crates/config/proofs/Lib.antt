@@ -2,3 +2,4 @@
 pub mod Vectors
 pub mod Coordinates
 pub mod Refusals
+pub mod Metrics

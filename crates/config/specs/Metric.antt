@@ -12,6 +12,11 @@ use Rattle.config.specs.declared.MetricAnswer.the-variants.{Known, Refus
 unfoldable pub metricOf : ℕ → MetricAnswer
 metricOf b = cond (eqb b 0) (Known SquaredL2) (cond (eqb b 1) (Known Cosine) (cond (eqb b 2) (Known InnerProduct) (Refused (refused 2 0))))
 
+-- the byte names a metric
+abbrev pub isMetric : MetricAnswer → Bool
+isMetric (Known metric) = true
+isMetric (Refused r) = false
+
 abbrev pub byteOf : Metric → ℕ
 byteOf SquaredL2 = 0
 byteOf Cosine = 1

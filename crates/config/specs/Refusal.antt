@@ -10,9 +10,13 @@ none = record { number = 0; place = 0 }
 abbrev pub refused : ℕ → ℕ → Refusal
 refused n p = record { number = n; place = p }
 
--- tests in their order: the number of those before, at 0, or where it is 0 what the rest says
+-- tests in their order: a refusal, or where it is none what the rest says
+abbrev pub thenRefusal : Refusal → Refusal → Refusal
+thenRefusal first rest = cond (eqb (first .number) 0) rest first
+
+-- the number of the tests before, at 0, or where it is 0 what the rest says
 abbrev pub refusedOr : ℕ → Refusal → Refusal
-refusedOr number rest = cond (eqb number 0) rest (refused number 0)
+refusedOr number rest = thenRefusal (refused number 0) rest
 
 -- a number at the first of n that fails, `bad`, or where none does what the rest says
 abbrev pub refusedAt : ℕ → ℕ → ℕ → Refusal → Refusal
