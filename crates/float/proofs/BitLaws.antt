@@ -48,6 +48,14 @@ pub finite-bits : (f : Format) (b : ℕ) → finite (ofBits f b) ≡ not (eqb (f
 unfolding ofBits
 finite-bits f b = fields-finite f (leb (top f) b) (field f b) (b % hid f)
 
+-- of a value: it lies between the infinities
+pub finite-between : (x : Float) → (lt (inf true) x && lt x (inf false)) ≡ finite x
+unfolding lt
+finite-between nan = refl
+finite-between (inf true) = refl
+finite-between (inf false) = refl
+finite-between (fin s m e) = refl
+
 -- ---- what a caller is told
 pub number-finite : (x : Float) → finite x ≡ true → number x ≡ Finite x
 unfolding number
@@ -80,7 +88,7 @@ number-of-ne nan h = absurd (true≢false h)
 number-of-ne (inf s) h = tt
 number-of-ne (fin s m e) h = tt
 
-is-nan : (x : Float) → isNan x ≡ true → x ≡ nan
+pub is-nan : (x : Float) → isNan x ≡ true → x ≡ nan
 unfolding isNan
 is-nan nan h = refl
 is-nan (inf s) h = absurd (false≢true h)
@@ -97,6 +105,9 @@ module _ (f : Format) (b : ℕ) where
 
   pub below-number : b % top f ≤ ones f * hid f → T (not (nanBits f b))
   below-number h = rw (nanBits-above f b, le-ltb (ones f * hid f) (b % top f) h) tt
+
+  pub bits-number : b % top f ≤ ones f * hid f → isNan (ofBits f b) ≡ false
+  bits-number h = is-false (isNan (ofBits f b)) (rw (nanBits-is f b) at (below-number h))
 
   pub number-below : T (not (isNan (ofBits f b))) → b % top f ≤ ones f * hid f
   number-below h = ltb-false (ones f * hid f) (b % top f) (sym (nanBits-above f b) ∙ nanBits-is f b ∙ is-false (isNan (ofBits f b)) h)

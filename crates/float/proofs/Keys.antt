@@ -1,29 +1,34 @@
 -- The key's order is totalOrder's, on every number that is no NaN, the infinities among them; and the way back from a
 -- key. Assumes nothing.
 use mathlib.Core.Path.{_≡_, ap, sym, _∙_}
-use mathlib.Core.Bool.{Bool, true, false, not}
+use mathlib.Core.Bool.{Bool, true, false, not, true≢false}
 use Prim.Native.Nat.{ℕ, _+_, _-_, _*_, _%_, _^_, _≤_, _<_}
 use native.Mathlib.Decide.{decLt}
 use native.Mathlib.Omega.{arith}
 use lib.Dec.{T, ltb, leb}
-use borrow.Author.Tests.{lt-ltb, le-ltb, lt-leb, le-leb}
-use lib.Ieee.{Float, binary64, ofBits, toBits, lt, fits, isNan}
+use borrow.Author.Tests.{lt-ltb, le-ltb, lt-leb, le-leb, leb-true}
+use lib.Ieee.{Float, nan, inf, fin, binary64, up, down, ofBits, toBits, lt, fits, isNan}
 use lib.Ieee.Bits.{ofBits-toBits, toBits-lt}
-use Rattle.float.specs.Order.{bySign, totalBelow, totalLe, keyOf, bitsOf}
-use Rattle.float.proofs.BitLaws.{number-below}
+use Rattle.float.specs.Order.{negative, bySign, totalBelow, totalLe, keyOf, bitsOf}
+use Rattle.float.proofs.BitLaws.{number-below, bits-number, finite-number}
+use Rattle.float.proofs.Within.{Within}
 use Rattle.float.proofs.Patterns.{same-ltb, sign-bits, lt-signed}
 
 -- ---- one branch of the definitions
 pub key-plus : (b : ℕ) → b < 2 ^ 63 → keyOf b ≡ b + 2 ^ 63
+unfolding keyOf
 key-plus b h = rw (lt-ltb b (2 ^ 63) h)
 
 pub key-minus : (b : ℕ) → 2 ^ 63 ≤ b → keyOf b ≡ 2 ^ 64 - 1 - b
+unfolding keyOf
 key-minus b h = rw (le-ltb b (2 ^ 63) h)
 
 bits-minus : (k : ℕ) → k < 2 ^ 63 → bitsOf k ≡ 2 ^ 64 - 1 - k
+unfolding bitsOf
 bits-minus k h = rw (lt-ltb k (2 ^ 63) h)
 
 bits-plus : (k : ℕ) → 2 ^ 63 ≤ k → bitsOf k ≡ k - 2 ^ 63
+unfolding bitsOf
 bits-plus k h = rw (le-ltb k (2 ^ 63) h)
 
 -- ---- there and back
@@ -42,6 +47,7 @@ key-bits k h = go (decLt k (2 ^ 63))
     go (no l) = ap keyOf (bits-plus k (omega arith)) ∙ key-plus (k - 2 ^ 63) (omega arith) ∙ omega arith
 
 pub key-lt : (b : ℕ) → b < 2 ^ 64 → keyOf b < 2 ^ 64
+unfolding keyOf
 key-lt b h = go (decLt b (2 ^ 63))
   where
     go : Dec (b < 2 ^ 63) → keyOf b < 2 ^ 64
@@ -58,7 +64,10 @@ pub record NotNan (b : ℕ) : Type 0 where
   pub number : b % 2 ^ 63 ≤ 2047 * 2 ^ 52
 
 pub key-order : (a b : ℕ) → NotNan a → NotNan b → ltb (keyOf a) (keyOf b) ≡ totalBelow (ofBits binary64 a) (ofBits binary64 b)
-key-order a b f g = rw (sign-bits binary64 a (f .number), sign-bits binary64 b (g .number)) (go (decLt a (2 ^ 63)) (decLt b (2 ^ 63)))
+unfolding totalBelow
+key-order a b f g =
+    rw (bits-number binary64 a (f .number), bits-number binary64 b (g .number), sign-bits binary64 a (f .number), sign-bits binary64 b (g .number))
+    (go (decLt a (2 ^ 63)) (decLt b (2 ^ 63)))
   where
     r : Bool
     r = lt (ofBits binary64 a) (ofBits binary64 b)
@@ -99,6 +108,7 @@ key-below x y f g n m =
     (key-order (toBits binary64 x) (toBits binary64 y) (not-nan x f n) (not-nan y g m))
 
 pub key-le : (x y : Float) → T (fits binary64 x) → T (fits binary64 y) → T (not (isNan x)) → T (not (isNan y)) → leb (keyed x) (keyed y) ≡ totalLe x y
+unfolding totalLe
 key-le x y f g n m = not-ltb (keyed x) (keyed y) ∙ ap not (key-below y x g f m n)
 
 pub keyed-lt : (x : Float) → T (fits binary64 x) → keyed x < 2 ^ 64
@@ -110,3 +120,18 @@ key-back x f = ap (ofBits binary64) (bits-key (toBits binary64 x) (toBits-lt bin
 
 pub key-same : (x y : Float) → T (fits binary64 x) → T (fits binary64 y) → keyed x ≡ keyed y → x ≡ y
 key-same x y f g e = sym (key-back x f) ∙ ap (λ (k : ℕ). ofBits binary64 (bitsOf k)) e ∙ key-back y g
+
+-- ---- of two that have no sign the larger has the larger key
+not-after : (x y : Float) → negative x ≡ false → negative y ≡ false → Within x y → totalLe x y ≡ true
+unfolding totalLe totalBelow isNan lt
+not-after nan y p q w = absurd (w .fine)
+not-after (inf s) y p q w = absurd (w .fine)
+not-after (fin s m e) nan p q w = absurd (w .bound)
+not-after (fin s m e) (inf t) p q w = absurd (w .bound)
+not-after (fin true m e) (fin t n d) p q w = absurd (true≢false p)
+not-after (fin false m e) (fin true n d) p q w = absurd (true≢false q)
+not-after (fin false m e) (fin false n d) p q w = rw (le-ltb (n * up d * down e) (m * up e * down d) (w .order))
+
+pub key-within : (x y : Float) → T (fits binary64 x) → T (fits binary64 y) → negative x ≡ false → negative y ≡ false → Within x y → keyed x ≤ keyed y
+key-within x y f g p q w =
+    leb-true (keyed x) (keyed y) (key-le x y f g (finite-number x (w .fine)) (finite-number y (w .bound)) ∙ not-after x y p q w)

@@ -2,6 +2,7 @@
 pub mod BitLaws
 pub mod Patterns
 pub mod Keys
+pub mod Total
 pub mod Within
 pub mod Bounds
 pub mod Singles

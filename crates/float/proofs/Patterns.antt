@@ -2,24 +2,24 @@
 -- formats. Assumes nothing.
 use mathlib.Core.Path.{_≡_, refl, ap, sym, _∙_, subst}
 use mathlib.Core.Logic.{_⊎_, inl, inr}
-use mathlib.Core.Bool.{Bool, true, false, cond}
+use mathlib.Core.Bool.{Bool, true, false, cond, _&&_, and-true, and-false, false≢true}
 use Prim.Native.Nat.{ℕ, zero, suc, _+_, _-_, _*_, _/_, _%_, _^_, _≤_, _<_, zero-le}
 use native.Mathlib.Nat.{mul-right-comm, mul-le-mul, mul-le-mul-right, le-refl, two-pow-succ, mul-add, add-mul, mul-assoc, mul-one, mul-lt-mul-of-pos-right, lt-of-mul-lt-mul-right, lt-of-lt-of-le, lt-of-le-of-lt, le-trans, le-of-lt, le-of-eq, eq-or-lt-of-le, mod-lt, mod-mod, mod-mod-of-dvd, dvd-mul-right, mod-eq-of-lt, div-add-mod', div-lt-iff-lt-mul, mul-div-cancel, mul-mod-left, mul-pos, zero-lt-suc}
 use native.Mathlib.Decide.{decLt}
 use native.Mathlib.Omega.{arith}
 use lib.Pow.{pow-pos, pow-mono}
 use lib.Dec.{T, ltb, leb, eqb}
-use borrow.Author.Tests.{lt-ltb, le-ltb, lt-leb, eq-eqb, ne-eqb}
+use borrow.Author.Tests.{lt-ltb, le-ltb, lt-leb, le-leb, eq-eqb, ne-eqb}
 use lib.IntN.{ℤ}
 use lib.Ieee.{Float, nan, inf, fin, Format, binary32, binary64, prec, low, hid, top, ones, up, down, odd, ofFields, ofBits, toBits, fits, size, lt, below}
 use lib.Ieee.Exact.{HasValue, odd-sign}
 use lib.Ieee.Fits.{down-pos}
-use lib.Ieee.Bits.{ofBits-toBits}
+use lib.Ieee.Bits.{is-true, ofBits-toBits}
 use lib.Ieee.Nearest.{div-mono}
 use lib.Ieee.Order.{transfer}
 use lib.Ieee.Scale.{finite}
 use Rattle.le.proofs.Chain.{by}
-use Rattle.float.specs.Values.{abs}
+use Rattle.float.specs.Values.{zero as nought, abs}
 use Rattle.float.specs.Order.{negative}
 use Rattle.float.proofs.BitLaws.{value-finite, value-sign, finite-number, number-below}
 
@@ -203,6 +203,36 @@ lt-bits f a b h k =
     let x : a % top f ≡ a = mod-eq-of-lt u in
     let y : b % top f ≡ b = mod-eq-of-lt w in
     rw (x, y) at (lt-signed f false a b (lt-leb (top f) a u) (lt-leb (top f) b w) (rw x h) (rw y k))
+
+-- ---- finite and above 0, by the bits
+not-above : (x : Float) → negative x ≡ true → lt nought x ≡ false
+unfolding lt
+not-above nan h = refl
+not-above (inf true) h = refl
+not-above (inf false) h = absurd (false≢true h)
+not-above (fin true m e) h = refl
+not-above (fin false m e) h = absurd (false≢true h)
+
+zero-bits : nought ≡ ofBits binary64 0
+unfolding ofBits
+zero-bits = refl
+
+pub above-bits : (b : ℕ) → (ltb 0 b && ltb b 9218868437227405312) ≡ (finite (ofBits binary64 b) && lt nought (ofBits binary64 b))
+above-bits b = go (decLt b 9218868437227405312)
+  where
+    go : Dec (b < 9218868437227405312) → (ltb 0 b && ltb b 9218868437227405312) ≡ (finite (ofBits binary64 b) && lt nought (ofBits binary64 b))
+    go (yes h) =
+        let e : b % top binary64 ≡ b = omega arith in
+        let n = is-true (finite (ofBits binary64 b)) (bits-finite binary64 b (rw e h)) in
+        let a = ap (λ (z : Float). lt z (ofBits binary64 b)) zero-bits ∙ lt-bits binary64 0 b (omega arith) (omega arith) in
+        rw (n, a, lt-ltb b 9218868437227405312 h) (and-true (ltb 0 b))
+    go (no h) = rw (le-ltb b 9218868437227405312 (omega arith), and-false (ltb 0 b)) (sym (by (finite (ofBits binary64 b)) above (λ e. rw e)))
+      where
+        above : finite (ofBits binary64 b) ≡ true → (finite (ofBits binary64 b) && lt nought (ofBits binary64 b)) ≡ false
+        above e =
+            let s = small-bits binary64 b (rw e tt) in
+            let t : top binary64 ≤ b = omega arith in
+            rw (e, not-above (ofBits binary64 b) (sign-bits binary64 b (omega arith) ∙ le-leb (top binary64) b t))
 
 -- ---- without its sign
 pub abs-odd : (d : ℕ) (s : Bool) (q k l : ℕ) → abs (odd d s q k l) ≡ odd d false q k l

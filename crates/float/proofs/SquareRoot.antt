@@ -1,17 +1,17 @@
 -- `sqrtOf` meets `IsRoot`, and nothing else that fits does; and how large a root is. Assumes nothing.
 use mathlib.Core.Path.{_≡_, refl, sym, ap, _∙_, subst}
-use mathlib.Core.Bool.{Bool, true, false}
+use mathlib.Core.Bool.{Bool, true, false, _&&_}
 use Prim.Native.Nat.{ℕ, zero, suc, _+_, _-_, _*_, _/_, _^_, _≤_, _<_}
-use native.Mathlib.Nat.{le-trans, le-of-eq, le-of-lt, lt-of-lt-of-le, lt-of-le-of-lt, lt-irrefl, lt-of-not-le, lt-of-mul-lt-mul-right, mul-assoc, mul-right-comm, mul-one, one-mul, mul-le-mul, mul-le-mul-right, le-of-mul-le-mul-right, mul-lt-mul-of-pos-right, mul-pos, mul-div-cancel, div-lt-iff-lt-mul, eq-of-mul-eq-mul-right, pow-suc, zero-lt-suc}
+use native.Mathlib.Nat.{le-trans, le-of-eq, le-of-lt, lt-of-lt-of-le, lt-of-le-of-lt, lt-irrefl, lt-of-not-le, lt-of-mul-lt-mul-right, mul-assoc, mul-right-comm, mul-one, one-mul, mul-le-mul, mul-le-mul-right, le-of-mul-le-mul-right, mul-lt-mul-of-pos-right, mul-pos, mul-mul-mul-comm, mul-div-cancel, div-lt-iff-lt-mul, eq-of-mul-eq-mul-right, pow-suc, zero-lt-suc}
 use native.Mathlib.Decide.{decLt}
 use native.Mathlib.Omega.{arith}
-use lib.IntN.{ℤ}
-use lib.Dec.{T, leb, lit≤, lit<}
+use lib.IntN.{ℤ, pos, negsuc}
+use lib.Dec.{T, leb, ltb, ltb→lt, leb→le, lit≤, lit<}
 use lib.Pow.{pow-add, pow-pos, pow-mono, shl-lt}
 use lib.Ieee.{Float, nan, inf, fin, binary64, up, down, size, fits, ofBits}
 use lib.Ieee.Digits.{size-lt, size-reaches, size-le}
 use lib.Ieee.Exact.{HasValue, odd-sign}
-use lib.Ieee.Fits.{down-pos, odd-fits}
+use lib.Ieee.Fits.{down-pos, odd-fits, and-l, and-r}
 use lib.Ieee.Bits.{ofBits-fits}
 use lib.Ieee.Scale.{finite}
 use lib.Ieee.Positive.{num, den, den-pos, through, value→cross, positive, positive-of-value}
@@ -21,8 +21,8 @@ use Rattle.float.specs.Order.{negative}
 use Rattle.float.specs.SquareRoot.{Near, Root, IsRoot, next, floorRoot, closer, rootOf, sqrtOf}
 use Rattle.float.proofs.BitLaws.{value-finite, value-sign}
 use Rattle.float.proofs.Patterns.{same-value}
-use Rattle.float.proofs.Within.{Within}
-use Rattle.float.proofs.Bounds.{size-gt}
+use Rattle.float.proofs.Within.{Within, holds}
+use Rattle.float.proofs.Bounds.{size-gt, pow-back, settled}
 use Rattle.float.proofs.Singles.{parts, units-of}
 use Rattle.float.proofs.Squares.{twice-square, near-floor, near-next, unique}
 use Rattle.float.proofs.Scales.{bounded, positive-root}
@@ -254,3 +254,75 @@ sqrt-root x f p = positive-root x (sqrtOf x) p (sqrt-is x f)
 -- a positive number's root is positive
 pub sqrt-positive : (x : Float) → T (fits binary64 x) → T (positive x) → T (positive (sqrtOf x))
 sqrt-positive x f p = let R = sqrt-root x f p in positive-of-value (sqrtOf x) (R .m * 2 ^ R .j) (2 ^ 1074) (R .value) (mul-pos (lt-of-lt-of-le (lit< tt) (R .full)) (pow-pos (R .j)))
+
+-- ---- a value that the format holds, and whose square is at most x, is at most x's root, which is the nearest of 53 digits
+under-near : (v m w : ℕ) → 4 * v < (2 * m + 1) * (2 * m + 1) → w * w ≤ v → w ≤ m
+under-near v m w h k = go (decLt m w)
+  where
+    go : Dec (m < w) → w ≤ m
+    go (no l) = omega arith
+    go (yes l) =
+        let a : 2 * m + 1 ≤ 2 * (m + 1) = omega arith in
+        let b : m + 1 ≤ w = omega arith in
+        absurd (omega (arith, mul-le-mul a a, mul-le-mul b b, twice-square (m + 1)))
+
+-- m * 2 ^ a units of 2 ^ -1074
+held-units : (b : Float) → T (holds binary64 b) → (m : ℕ) × (a : ℕ) × (m < 2 ^ 53) × (num b * 2 ^ 1074 ≡ m * 2 ^ a * den b)
+held-units nan h = absurd h
+held-units (inf s) h = absurd h
+held-units (fin s m (pos k)) h =
+    let p = ltb m (2 ^ 53) in
+    let q = leb 1 (2 ^ 1074) in
+    let r = ltb (m * 2 ^ k) (2 ^ 1024 * 1) in
+    (m, k + 1074, ltb→lt m (2 ^ 53) (and-l p q (and-l (p && q) r h)), mul-assoc m (2 ^ k) (2 ^ 1074) ∙ ap (λ (z : ℕ). m * z) (sym (pow-add 2 k 1074)) ∙ sym (mul-one (m * 2 ^ (k + 1074))))
+held-units (fin s m (negsuc k)) h =
+    let p = ltb m (2 ^ 53) in
+    let q = leb (2 ^ suc k) (2 ^ 1074) in
+    let r = ltb (m * 1) (2 ^ 1024 * 2 ^ suc k) in
+    let l : suc k ≤ 1074 = pow-back (suc k) 1074 (leb→le (2 ^ suc k) (2 ^ 1074) (and-r p q (and-l (p && q) r h))) in
+    let t : 1074 ≡ 1074 - suc k + suc k = omega arith in (
+      m,
+      1074 - suc k,
+      ltb→lt m (2 ^ 53) (and-l p q (and-l (p && q) r h)),
+      ap (λ (z : ℕ). z * 2 ^ 1074) (mul-one m) ∙ ap (λ (z : ℕ). m * 2 ^ z) t ∙ ap (λ (z : ℕ). m * z) (pow-add 2 (1074 - suc k) (suc k)) ∙ sym (mul-assoc m (2 ^ (1074 - suc k)) (2 ^ suc k)),
+    )
+
+module _ (x r : Float) (R : Root x r) where
+  in-units : (M a : ℕ) → M < 2 ^ 53 → M * 2 ^ a * (M * 2 ^ a) * den x ≤ num x * 2 ^ 2148 → M * 2 ^ a ≤ R .m * 2 ^ R .j
+  in-units M a few square = go (decLt a (R .j))
+    where
+      go : Dec (a < R .j) → M * 2 ^ a ≤ R .m * 2 ^ R .j
+      go (yes l) =
+          let k : 53 + a ≤ 52 + R .j = omega arith in
+          le-trans (le-of-lt (shl-lt 53 a few)) (le-trans (pow-mono k) (le-trans (le-of-eq (pow-add 2 52 (R .j))) (mul-le-mul-right (2 ^ R .j) (R .full))))
+      go (no l) =
+          let j = R .j in
+          let W = M * 2 ^ (a - j) in
+          let k : a - j + j ≡ a = omega arith in
+          let e : M * 2 ^ a ≡ W * 2 ^ j = ap (λ (z : ℕ). M * 2 ^ z) (sym k) ∙ ap (λ (z : ℕ). M * z) (pow-add 2 (a - j) j) ∙ sym (mul-assoc M (2 ^ (a - j)) (2 ^ j)) in
+          let t : 2 * j ≡ j + j = omega arith in
+          let p : 2 ^ (2 * j) ≡ 2 ^ j * 2 ^ j = ap (λ (z : ℕ). 2 ^ z) t ∙ pow-add 2 j j in
+          let s : M * 2 ^ a * (M * 2 ^ a) ≤ R .v * 2 ^ (2 * j) =
+          le-of-mul-le-mul-right (le-trans square (le-of-eq (R .scaled ∙ sym (mul-assoc (R .v) (2 ^ (2 * j)) (den x))))) (den-pos x) in
+          let w : W * W ≤ R .v =
+          le-of-mul-le-mul-right (le-trans (le-of-eq (mul-mul-mul-comm W W (2 ^ j) (2 ^ j) ∙ sym (ap (λ (z : ℕ). z * z) e))) (rw p at s)) (mul-pos (pow-pos j) (pow-pos j)) in
+          rw e (mul-le-mul-right (2 ^ j) (under-near (R .v) (R .m) W (R .near .over) w))
+
+  pub root-holds : (b : Float) → T (holds binary64 b) → num b * num b * den x ≤ num x * (den b * den b) → Within b r
+  root-holds b h k =
+      let u = held-units b h in
+      let N = u .0 * 2 ^ u .1 in
+      record {
+        fine = settled binary64 false b h .1 .fine;
+        bound = root-fine x r R .0;
+        order = through (num b) N (num r) (den b) (2 ^ 1074) (den r) (pow-pos 1074) (le-of-eq (u .3))
+            (le-trans (mul-le-mul-right (den r) (in-units (u .0) (u .1) (u .2) (squared (num b) (den b) N (2 ^ 1074) (num x) (den x) (den-pos b) (u .3) k)))
+            (le-of-eq (sym (value→cross r (R .m * 2 ^ R .j) (2 ^ 1074) (R .value)))));
+      }
+    where
+      -- (B / D)² ≤ X / E, where B / D is N / K
+      squared : (B D N K X E : ℕ) → 0 < D → B * K ≡ N * D → B * B * E ≤ X * (D * D) → N * N * E ≤ X * (K * K)
+      squared B D N K X E p e h =
+          le-of-mul-le-mul-right {k = D * D}
+          (le-trans (le-of-eq (mul-right-comm (N * N) E (D * D) ∙ ap (λ (z : ℕ). z * E) (mul-mul-mul-comm N N D D ∙ sym (ap (λ (z : ℕ). z * z) e) ∙ mul-mul-mul-comm B K B K) ∙ mul-right-comm (B * B) (K * K) E))
+          (le-trans (mul-le-mul-right (K * K) h) (le-of-eq (mul-right-comm X (D * D) (K * K))))) (mul-pos p p)

@@ -27,6 +27,14 @@ pub fn is_finite_f64(bits: u64) -> bool
     bits % 9223372036854775808 / 4503599627370496 != 2047
 }
 
+// Whether a value is a finite number: no NaN is above an infinity or below one.
+pub fn is_finite(x: f64) -> bool
+    ensures { λ r. ⌜ r ≡ finite x ⌝ }
+{
+    let top: f64 = 1.0 / 0.0;
+    (-top < x) & (x < top)
+}
+
 // A float that was read: a finite number, or an infinity or a NaN.
 pub enum Number {
     Finite(f64),
