@@ -71,9 +71,11 @@ pub record Holds (xs a : List ℕ) (n : ℕ) : Type 0 where
   pub heap : n ≡ length a → HeapFrom 0 a
 
 pub nothing : (a : List ℕ) → Holds [] a 0
+unfolding sort least
 nothing a = record { count = omega arith; kept = sym (take-nil (length a)); heap = λ e. record { at = λ p c l k i. absurd (omega arith) } }
 
 pub more : (xs a : List ℕ) (n x : ℕ) (b : List ℕ) (r : ℕ) → Holds xs a n → Kept a n x b r → length b ≡ length a → Holds (xs ++ x ∷ []) b r
+unfolding least
 more xs a n x b r H K l = record {
   count = omega (arith, H .count, K .count, length-append xs (x ∷ []));
   kept = K .kept ∙ ap (λ s. take (length a) (insert leb x s)) (H .kept) ∙ sym (least-snoc leb leb-order (length a) xs x)

@@ -7,29 +7,44 @@ use mathlib.Core.List.{List, [], _∷_, _++_, append-nil, map}
 use Prim.Native.Nat.{ℕ, zero, suc, _≤_, _<_, min}
 use native.Mathlib.Omega.{arith}
 use lib.ListN.{length, take, getD, length-take, length-append}
-use lib.Seq.{take-take, take-at}
+use lib.Seq.{take-take, take-at, take-all}
 use Rattle.rank.specs.Sort.{_∈_, Distinct, TotalOrder, Ascending, insert, sort, least, Least}
-use Rattle.le.proofs.Chain.{by}
-use Rattle.rank.proofs.Members.{mem-take, mem-getD, pairwise-take, take-map}
+use Rattle.le.proofs.Chain.{by, lt-or-le}
+use Rattle.rank.proofs.Members.{mem-take, pairwise-take, pairwise-at, take-map}
 use Rattle.rank.proofs.Sort.{length-insert, length-sort, take-insert, kept, from-sort, to-sort, distinct-sort, insert-last, insert-before, sort-greatest, sort-map, le-refl, sort-middle, sort-snoc, ascending-sort}
 
 -- ---- any test `le`
 
 module _ {A : Type 0} (le : A → A → Bool) where
   pub length-least : (k : ℕ) (xs : List A) → length (least le k xs) ≡ min k (length xs)
+  unfolding least
   length-least k xs = length-take k (sort le xs) ∙ ap (min k) (length-sort le xs)
 
   pub from-least : (z : A) (k : ℕ) (xs : List A) → z ∈ least le k xs → z ∈ xs
+  unfolding least
   from-least z k xs h = from-sort le z xs (mem-take z k (sort le xs) h)
 
   -- a smaller limit gives a prefix
   pub least-prefix : (k m : ℕ) (xs : List A) → k ≤ m → take k (least le m xs) ≡ least le k xs
+  unfolding least
   least-prefix k m xs h = take-take k m (sort le xs) h
+
+  -- a limit past the length changes nothing: slices of min(limit, rows) hold what slices of the limit would
+  pub enough : (k n : ℕ) (xs : List A) → length xs ≤ n → least le (min k n) xs ≡ least le k xs
+  unfolding least
+  enough k n xs h =
+      let s : List A = sort le xs in
+      let l = length-sort le xs in
+      ⊎-elim
+      (λ (p : k < n). let e : min k n ≡ k = omega arith in rw e)
+      (λ (p : n ≤ k). let e : min k n ≡ n = omega arith in rw e (take-all n s (omega arith) ∙ sym (take-all k s (omega arith))))
+      (lt-or-le k n)
 
   -- a full list whose greatest is y, and one element x more: x takes the place of y where it comes before y, and else
   -- nothing changes
   pub keep-less : (x y : A) (t : List A) → ((z : A) → z ∈ t → le z y ≡ true) → le y x ≡ false
       → take (length (y ∷ t)) (insert le x (sort le (y ∷ t))) ≡ sort le (x ∷ t)
+  unfolding sort
   keep-less x y t h e =
       rw (sort-greatest le y t h, insert-before le x y (sort le t) e)
       (take-at (insert le x (sort le t)) (y ∷ []) (suc (length t)) (length-insert le x (sort le t) ∙ ap suc (length-sort le t)))
@@ -41,6 +56,7 @@ module _ {A : Type 0} (le : A → A → Bool) where
 -- two tests that agree through f
 pub least-map : {A B : Type 0} (le : A → A → Bool) (le' : B → B → Bool) (f : A → B) (k : ℕ) (xs : List A)
     → ((x y : A) → x ∈ xs → y ∈ xs → le' (f x) (f y) ≡ le x y) → least le' k (map f xs) ≡ map f (least le k xs)
+unfolding least
 least-map le le' f k xs h = rw (sort-map le le' f xs h) (take-map f k (sort le xs))
 
 -- ---- a total order
@@ -48,6 +64,7 @@ least-map le le' f k xs h = rw (sort-map le le' f xs h) (take-map f k (sort le x
 module _ {A : Type 0} (le : A → A → Bool) (O : TotalOrder le) where
   -- one more element: only the k least so far matter
   pub least-snoc : (k : ℕ) (xs : List A) (x : A) → least le k (xs ++ x ∷ []) ≡ take k (insert le x (least le k xs))
+  unfolding least
   least-snoc k xs x = rw (sort-snoc le O xs x) (take-insert le k x (sort le xs))
 
   -- what is not among the first k comes no earlier than these
@@ -59,6 +76,7 @@ module _ {A : Type 0} (le : A → A → Bool) (O : TotalOrder le) where
   rest-later x y (suc k) (z ∷ s) a (inr h) (inr m) = ⊎-map inr (λ p. p) (rest-later x y k s (a .1) h m)
 
   pub least-is : (k : ℕ) (xs : List A) → Distinct xs → Least le k xs (least le k xs)
+  unfolding least
   least-is k xs d = record {
     size = length-least le k xs;
     within = λ x. from-least le x k xs;
@@ -90,6 +108,7 @@ module _ {A : Type 0} (le : A → A → Bool) (O : TotalOrder le) where
       }))
 
   pub least-only : (k : ℕ) (xs l : List A) → Distinct xs → Least le k xs l → l ≡ least le k xs
+  unfolding least
   least-only k xs l d p = only k (sort le xs) l (ascending-sort le O xs) (distinct-sort le xs d) (record {
     size = p .size ∙ ap (min k) (sym (length-sort le xs));
     within = λ z m. to-sort le z xs (p .within z m);
@@ -100,18 +119,14 @@ module _ {A : Type 0} (le : A → A → Bool) (O : TotalOrder le) where
 
   -- ---- where the list grows
 
-  rises : (s : List A) (i : ℕ) (d : A) → Ascending le s → suc i < length s → le (getD s i d) (getD s (suc i) d) ≡ true
-  rises [] i d a h = absurd (omega arith)
-  rises (x ∷ xs) zero d a h = a .0 (getD xs 0 d) (mem-getD xs 0 d (omega arith))
-  rises (x ∷ xs) (suc i) d a h = rises xs i d (a .1) (omega arith)
-
   earlier : (x : A) (s : List A) (i : ℕ) (d : A) → Ascending le s → i < length s → le (getD (insert le x s) i d) (getD s i d) ≡ true
+  unfolding insert
   earlier x [] i d a h = absurd (omega arith)
   earlier x (y ∷ ys) zero d a h = by (le y x) (λ e. rw e (le-refl le O y)) (λ e. rw e (O .total e))
   earlier x (y ∷ ys) (suc i) d a h =
       by (le y x)
       (λ e. rw e (earlier x ys i d (a .1) (omega arith)))
-      (λ e. rw e (rises (y ∷ ys) i d a h))
+      (λ e. rw e (pairwise-at _ (y ∷ ys) d a i (suc i) (omega arith) h))
 
   -- each place has the same element or an earlier one
   pub more-earlier : (xs ys : List A) (i : ℕ) (d : A) → i < length xs → le (getD (sort le (xs ++ ys)) i d) (getD (sort le xs) i d) ≡ true
@@ -123,6 +138,7 @@ module _ {A : Type 0} (le : A → A → Bool) (O : TotalOrder le) where
 
   -- what is among the k least is new, or was among them
   pub more-kept : (z : A) (k : ℕ) (xs ys : List A) → z ∈ least le k (xs ++ ys) → (z ∈ least le k xs) ⊎ (z ∈ ys)
+  unfolding least
   more-kept z k xs [] h = inl (rw append-nil at h)
   more-kept z k xs (y ∷ ys) h =
       ⊎-elim (λ p. inr (inl p)) (λ m. ⊎-map (λ p. p) inr (more-kept z k xs ys m))

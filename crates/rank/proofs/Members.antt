@@ -69,6 +69,12 @@ module _ {A : Type 0} where
     pairwise-snoc R ys x (p .1) (λ z m. h z (inr m)),
   )
 
+  pub pairwise-at : (R : A → A → Type 0) (xs : List A) (d : A) → Pairwise R xs → (i j : ℕ) → i < j → j < length xs → R (getD xs i d) (getD xs j d)
+  pairwise-at R [] d p i j h l = absurd (omega arith)
+  pairwise-at R (x ∷ xs) d p i zero h l = absurd (omega arith)
+  pairwise-at R (x ∷ xs) d p zero (suc j) h l = p .0 (getD xs j d) (mem-getD xs j d (omega arith))
+  pairwise-at R (x ∷ xs) d p (suc i) (suc j) h l = pairwise-at R xs d (p .1) i j (omega arith) (omega arith)
+
 -- a map of the first k
 pub take-map : {A B : Type 0} (f : A → B) (k : ℕ) (xs : List A) → take k (map f xs) ≡ map f (take k xs)
 take-map f zero xs = refl

@@ -12,35 +12,34 @@ use Rattle.rank.specs.Sort.{_∈_, least, Least}
 
 -- row r is row s or comes before it: by the key, and where the keys are equal by the row. Document 01, The arithmetic:
 -- "Order: IEEE 754 totalOrder on distance, then id." The key is the distance's; ids rise with rows.
-abbrev pub byKey : (ℕ → ℕ) → ℕ → ℕ → Bool
+unfoldable pub byKey : (ℕ → ℕ) → ℕ → ℕ → Bool
 byKey key r s = cond (eqb (key r) (key s)) (leb r s) (leb (key r) (key s))
 
-abbrev pub among : ℕ → List ℕ → Bool
+unfoldable pub among : ℕ → List ℕ → Bool
 among x [] = false
 among x (y ∷ ys) = eqb x y || among x ys
 
 -- how many of xs are among ys, wherever they stand there
-abbrev pub shared : List ℕ → List ℕ → ℕ
+unfoldable pub shared : List ℕ → List ℕ → ℕ
 shared [] ys = 0
 shared (x ∷ xs) ys = cond (among x ys) (suc (shared xs ys)) (shared xs ys)
 
 -- `near` is the approximate order, `le` the original one
 module _ (near le : ℕ → ℕ → Bool) (eligible : List ℕ) where
   -- Document 01, The report: the min(limit, eligible) least by approximate order
-  abbrev pub candidates : ℕ → List ℕ
+  unfoldable pub candidates : ℕ → List ℕ
   candidates L = least near L eligible
 
   -- the min(k, eligible) least of those by original order
-  abbrev pub listed : ℕ → ℕ → List ℕ
+  unfoldable pub listed : ℕ → ℕ → List ℕ
   listed k L = least le k (candidates L)
 
   -- "the list over all eligible records"
-  abbrev pub exact : ℕ → List ℕ
+  unfoldable pub exact : ℕ → List ℕ
   exact k = least le k eligible
 
   -- demand 3, as far as it speaks of the limit
   pub record LimitTheorem : Type 0 where
-    pub candidates-are : (L : ℕ) → Least near L eligible (candidates L)
     pub listed-are : (k L : ℕ) → Least le k (candidates L) (listed k L)
     pub exact-are : (k : ℕ) → Least le k eligible (exact k)
     pub exact-only : (k : ℕ) (l : List ℕ) → Least le k eligible l → l ≡ exact k

@@ -6,6 +6,6 @@ use lib.Ieee.{Float}
 use Rattle.float.specs.Order.{totalBelow}
 
 -- row r is row s or comes before it, where each row has a distance and an id
-abbrev pub byDistance : (ℕ → Float) → (ℕ → ℕ) → ℕ → ℕ → Bool
+unfoldable pub byDistance : (ℕ → Float) → (ℕ → ℕ) → ℕ → ℕ → Bool
 byDistance distance id r s =
     cond (totalBelow (distance r) (distance s)) true (cond (totalBelow (distance s) (distance r)) false (leb (id r) (id s)))
