@@ -6,7 +6,7 @@ use mathlib.Core.Bool.{Bool, true, _&&_, and-assoc, and-true}
 use mathlib.Core.Logic.{⊎-elim}
 use Prim.Native.Nat.{ℕ, _+_, _-_, _*_, _≤_, _<_}
 use native.Mathlib.Omega.{arith}
-use borrow.Author.Tests.{lt-ltb, le-ltb}
+use borrow.Author.Tests.{lt-ltb, le-ltb, le-leb}
 use lib.Dec.{leb}
 use lib.IntN.{ℤ, pos, natAbs, _+ℤ_, _*ℤ_, +ℤ-assoc, +ℤ-idl, +ℤ-idr, zero-*ℤ}
 use lib.ListN.{length, drop, getD, length-drop}
@@ -50,15 +50,15 @@ within-append levels [] ys = refl
 within-append levels (x ∷ xs) ys =
     rw (within-append levels xs ys) (sym (and-assoc (leb (natAbs x) levels) (within levels xs) (within levels ys)))
 
--- ---- the sum of the squares, and whether the codes are within 127
+-- ---- the sum of the squares, and whether the codes are within the levels
 
-pub check-start : {n : ℕ} {xs : List ℤ} {at i : ℕ} → n ≡ 0 → Checked n xs at i 0 true
+pub check-start : {levels : ℕ} {n : ℕ} {xs : List ℤ} {at i : ℕ} → n ≡ 0 → Checked levels n xs at i 0 true
 unfolding squares within
 check-start e = rw e (record { squared = refl; size = omega arith; whole = refl })
 
-pub check-add : {n m N : ℕ} {xs : List ℤ} {at i i′ : ℕ} {v w u : ℕ} {a b r : Bool} → i′ ≡ i + n → N ≡ n + m → ChecksAdded v w u a b r
-    → Checked n xs at i v a → Checked m xs at i′ w b → Checked N xs at i u r
-check-add {n} {m} {xs = xs} {at} {i} {i′} e k J A B =
+pub check-add : {levels : ℕ} {n m N : ℕ} {xs : List ℤ} {at i i′ : ℕ} {v w u : ℕ} {a b r : Bool} → i′ ≡ i + n → N ≡ n + m → ChecksAdded v w u a b r
+    → Checked levels n xs at i v a → Checked levels m xs at i′ w b → Checked levels N xs at i u r
+check-add {levels} {n} {m} {xs = xs} {at} {i} {i′} e k J A B =
     let f : at + i′ ≡ at + i + n = omega arith in
     record {
       squared =
@@ -67,17 +67,17 @@ check-add {n} {m} {xs = xs} {at} {i} {i′} e k J A B =
       size = omega (arith, J .squared, A .size, B .size);
       whole =
           rw (J .whole, A .whole, B .whole, f, k, part-add n m xs (at + i))
-          (sym (within-append 127 (part n xs (at + i)) (part m xs (at + i + n))));
+          (sym (within-append levels (part n xs (at + i)) (part m xs (at + i + n))));
     }
 
-check-one : {xs : List ℤ} {at i : ℕ} {x : ℤ} → at + i < length xs → x ≡ getD xs (at + i) (pos 0) → natAbs x * natAbs x ≤ 16384
-    → Checked 1 xs at i (natAbs x * natAbs x) (leb (natAbs x) 127)
+check-one : {levels : ℕ} {xs : List ℤ} {at i : ℕ} {x : ℤ} → at + i < length xs → x ≡ getD xs (at + i) (pos 0) → natAbs x * natAbs x ≤ 16384
+    → Checked levels 1 xs at i (natAbs x * natAbs x) (leb (natAbs x) levels)
 unfolding squares within
-check-one {xs} {at} {i} {x} h e s =
+check-one {levels} {xs} {at} {i} {x} h e s =
     record {
       squared = rw (part-one xs (at + i) h, ← e) (omega arith);
       size = omega arith;
-      whole = rw (part-one xs (at + i) h, ← e) (sym (and-true (leb (natAbs x) 127)));
+      whole = rw (part-one xs (at + i) h, ← e) (sym (and-true (leb (natAbs x) levels)));
     }
 
 -- ---- the dot product
@@ -112,68 +112,70 @@ dot-one {xs} {at} {ys} {i} h k e f s =
       size = omega arith;
     }
 
--- ---- one code more, unless it comes before those that are taken
+-- ---- one code more
 
-pub code-checked : {x z : ℤ} {w v : ℕ} {b t : Bool} → z ≡ x → (v ≡ natAbs z * natAbs z) × (v ≤ 16384) → t ≡ leb (natAbs z) 127
-    → CodeChecked x w (w + v) b (b && t)
+pub code-checked : {levels : ℕ} {x z : ℤ} {w v : ℕ} {b t : Bool} → z ≡ x → (v ≡ natAbs z * natAbs z) × (v ≤ 16384) → t ≡ leb (natAbs z) levels
+    → CodeChecked levels x w (w + v) b (b && t)
 code-checked e v t = rw (← e) (record { squared = rw (v .0); size = omega (arith, v .1); whole = rw t })
 
-pub check-code : (at i j k : ℕ) {xs : List ℤ} {x : ℤ} {w u : ℕ} {b r : Bool} → at + i + j < length xs → x ≡ getD xs (at + i + j) (pos 0)
-    → CodeChecked (maskedAt j k x) w u b r → Checked (j - (17 - k)) xs at (i + (17 - k)) w b → Checked (j + 1 - (17 - k)) xs at (i + (17 - k)) u r
-check-code at i j k {xs} {x} {w} {u} {b} {r} h e t A = ⊎-elim before taken (lt-or-le (j + k) 17)
+-- one code more at place p + j, taken as 0 if that comes before i
+pub check-code : (at i p j k : ℕ) {levels : ℕ} {xs : List ℤ} {x : ℤ} {w u : ℕ} {b r : Bool} → i + k ≡ p + 17 → at + p + j < length xs
+    → x ≡ getD xs (at + p + j) (pos 0) → CodeChecked levels (maskedAt j k x) w u b r → Checked levels (p + j - i) xs at i w b
+    → Checked levels (p + (j + 1) - i) xs at i u r
+check-code at i p j k {levels} {xs} {x} {w} {u} {b} {r} d h e t A = ⊎-elim before taken (lt-or-le (j + k) 17)
   where
-    before : j + k < 17 → Checked (j + 1 - (17 - k)) xs at (i + (17 - k)) u r
+    before : j + k < 17 → Checked levels (p + (j + 1) - i) xs at i u r
     before l =
-        let z : CodeChecked (pos 0) w u b r = rw (lt-ltb (j + k) 17 l) at t in
-        let n : j + 1 - (17 - k) ≡ j - (17 - k) = omega arith in
+        let z : CodeChecked levels (pos 0) w u b r = rw (lt-ltb (j + k) 17 l) at t in
+        let n : p + (j + 1) - i ≡ p + j - i = omega arith in
         let v : u ≡ w = omega (arith, z .squared) in
-        rw (n, v, z .whole, and-true b) A
+        rw (n, v, z .whole, le-leb 0 levels (omega arith), and-true b) A
 
-    taken : 17 ≤ j + k → Checked (j + 1 - (17 - k)) xs at (i + (17 - k)) u r
+    taken : 17 ≤ j + k → Checked levels (p + (j + 1) - i) xs at i u r
     taken l =
-        let z : CodeChecked x w u b r = rw (le-ltb (j + k) 17 l) at t in
-        let o : at + i + j ≡ at + (i + j) = omega arith in
+        let z : CodeChecked levels x w u b r = rw (le-ltb (j + k) 17 l) at t in
+        let o : at + p + j ≡ at + (p + j) = omega arith in
         check-add (omega arith) (omega arith) (record { squared = z .squared; whole = z .whole }) A
-        (check-one {i = i + j} (omega arith) (rw o at e) (omega (arith, z .squared, z .size)))
+        (check-one {i = p + j} (omega arith) (rw o at e) (omega (arith, z .squared, z .size)))
 
-pub sums-code : (at i j k : ℕ) {xs ys : List ℤ} {x y : ℤ} {s r : Sums} → i + j < length ys
-    → x ≡ getD xs (at + i + j) (pos 0) → y ≡ getD ys (i + j) (pos 0) → CodeAdded (maskedAt j k x) y s r
-    → Summed (j - (17 - k)) xs at ys (i + (17 - k)) s → Summed (j + 1 - (17 - k)) xs at ys (i + (17 - k)) r
-sums-code at i j k {xs} {ys} {x} {y} {s} {r} h e f t A =
+pub sums-code : (at i p j k : ℕ) {levels : ℕ} {xs ys : List ℤ} {x y : ℤ} {s r : Sums} → i + k ≡ p + 17 → p + j < length ys
+    → x ≡ getD xs (at + p + j) (pos 0) → y ≡ getD ys (p + j) (pos 0) → CodeAdded levels (maskedAt j k x) y s r
+    → Summed levels (p + j - i) xs at ys i s → Summed levels (p + (j + 1) - i) xs at ys i r
+sums-code at i p j k {levels} {xs} {ys} {x} {y} {s} {r} d h e f t A =
     record {
       dotted = ⊎-elim before taken (lt-or-le (j + k) 17);
-      checked = check-code at i j k (omega (arith, A .dotted .row)) e (t .checked) (A .checked);
+      checked = check-code at i p j k d (omega (arith, A .dotted .row)) e (t .checked) (A .checked);
     }
   where
-    before : j + k < 17 → Dotted (j + 1 - (17 - k)) xs at ys (i + (17 - k)) (r .dot)
+    before : j + k < 17 → Dotted (p + (j + 1) - i) xs at ys i (r .dot)
     before l =
-        let z : CodeAdded (pos 0) y s r = rw (lt-ltb (j + k) 17 l) at t in
-        let n : j + 1 - (17 - k) ≡ j - (17 - k) = omega arith in
+        let z : CodeAdded levels (pos 0) y s r = rw (lt-ltb (j + k) 17 l) at t in
+        let n : p + (j + 1) - i ≡ p + j - i = omega arith in
         rw (n, z .dotted, zero-*ℤ y, +ℤ-idr (s .dot)) (A .dotted)
 
-    taken : 17 ≤ j + k → Dotted (j + 1 - (17 - k)) xs at ys (i + (17 - k)) (r .dot)
+    taken : 17 ≤ j + k → Dotted (p + (j + 1) - i) xs at ys i (r .dot)
     taken l =
-        let z : CodeAdded x y s r = rw (le-ltb (j + k) 17 l) at t in
-        let o : at + i + j ≡ at + (i + j) = omega arith in
-        dot-add (omega arith) (omega arith) (z .dotted) (A .dotted) (dot-one {i = i + j} (A .dotted .row) h (rw o at e) f (z .size))
+        let z : CodeAdded levels x y s r = rw (le-ltb (j + k) 17 l) at t in
+        let o : at + p + j ≡ at + (p + j) = omega arith in
+        dot-add (omega arith) (omega arith) (z .dotted) (A .dotted) (dot-one {i = p + j} (A .dotted .row) h (rw o at e) f (z .size))
 
 -- ---- a part of a row, and the row
 
-pub sums-start : {n : ℕ} {xs : List ℤ} {at : ℕ} {ys : List ℤ} {i : ℕ} {r : Sums} → n ≡ 0 → at + length ys ≤ length xs → i ≤ length ys
-    → r .dot ≡ pos 0 → r .squares ≡ 0 → r .whole ≡ true → Summed n xs at ys i r
+pub sums-start : {levels : ℕ} {n : ℕ} {xs : List ℤ} {at : ℕ} {ys : List ℤ} {i : ℕ} {r : Sums} → n ≡ 0 → at + length ys ≤ length xs → i ≤ length ys
+    → r .dot ≡ pos 0 → r .squares ≡ 0 → r .whole ≡ true → Summed levels n xs at ys i r
 sums-start e h k d w b = record { dotted = rw d (dot-start e h k); checked = rw (w, b) (check-start e) }
 
-pub sums-add : {n m N : ℕ} {xs : List ℤ} {at : ℕ} {ys : List ℤ} {i i′ : ℕ} {a b r : Sums} → i′ ≡ i + n → N ≡ n + m
-    → SumsAdded a b r → Summed n xs at ys i a → Summed m xs at ys i′ b → Summed N xs at ys i r
+pub sums-add : {levels : ℕ} {n m N : ℕ} {xs : List ℤ} {at : ℕ} {ys : List ℤ} {i i′ : ℕ} {a b r : Sums} → i′ ≡ i + n → N ≡ n + m
+    → SumsAdded a b r → Summed levels n xs at ys i a → Summed levels m xs at ys i′ b → Summed levels N xs at ys i r
 sums-add e g j A B =
     record { dotted = dot-add e g (j .dotted) (A .dotted) (B .dotted); checked = check-add e g (j .checked) (A .checked) (B .checked) }
 
-pub check-done : (n : ℕ) {N : ℕ} {xs : List ℤ} {at i : ℕ} {r : Check} → N ≡ n → i ≡ 0 → Checked N xs at i (r .squares) (r .whole) → RowCheck (part n xs at) r
+pub check-done : (n : ℕ) {levels : ℕ} {N : ℕ} {xs : List ℤ} {at i : ℕ} {r : Check} → N ≡ n → i ≡ 0 → Checked levels N xs at i (r .squares) (r .whole) → RowCheck levels (part n xs at) r
 check-done n {at = at} {i} e f A =
     let g : at + i ≡ at = omega arith in
     record { squared = rw (A .squared, e, g); whole = rw (A .whole, e, g) }
 
-pub sums-done : {N : ℕ} {xs : List ℤ} {at : ℕ} {ys : List ℤ} {i : ℕ} {r : Sums} → N ≡ length ys → i ≡ 0 → Summed N xs at ys i r → RowSums (part (length ys) xs at) ys r
+pub sums-done : {levels : ℕ} {N : ℕ} {xs : List ℤ} {at : ℕ} {ys : List ℤ} {i : ℕ} {r : Sums} → N ≡ length ys → i ≡ 0 → Summed levels N xs at ys i r → RowSums levels (part (length ys) xs at) ys r
 sums-done {at = at} {ys} {i} e f A =
     let g : at + i ≡ at = omega arith in
     record {
@@ -184,5 +186,5 @@ sums-done {at = at} {ys} {i} e f A =
     }
 
 -- a row's dot product as an i32 holds it
-pub dot-held : {xs ys : List ℤ} {r : Sums} → length ys ≤ 65536 → RowSums xs ys r → toZ w32 (ofZ w32 (r .dot)) ≡ dot xs ys
+pub dot-held : {levels : ℕ} {xs ys : List ℤ} {r : Sums} → length ys ≤ 65536 → RowSums levels xs ys r → toZ w32 (ofZ w32 (r .dot)) ≡ dot xs ys
 dot-held {r = r} h A = toZ-ofZ {w = w32} {z = r .dot} (small (omega (arith, A .size))) ∙ A .dotted

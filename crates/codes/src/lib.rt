@@ -1,29 +1,33 @@
-// Rows of 8-bit codes: the dot product with a query, the sum of the squared codes, and whether every code is within 127.
+// Rows of 8-bit codes: the dot product with a query, the sum of the squared codes, and whether every code is within
+// the levels.
 // A row is cached (bytes in two's complement) or resident (signed numbers); the query's codes are widened to i16 once.
 // From quantized_cache.rs, `dot_codes` and `validate_row`, and the search loop of quantization.rs.
 //
-// A row is summed in parts of 16 codes, two parts a turn: loops of constant length, which LLVM unrolls and vectorises.
-// A rest of 1 to 15 codes is summed as the row's last 16 codes, those already summed taken as 0. The order of the
-// structs' fields, and of the operations on them, decides whether the vectoriser takes all sums: measure each change.
+// A row is summed in parts of 16 codes, four or eight a turn: loops of constant length, which LLVM unrolls and vectorises, and
+// whose sums it then adds in vectors, once a turn. The turns shorten to 64, 32 and 16 codes; a rest of 1 to 15 is summed as the
+// row's last 16 codes, those already summed taken as 0. A row of fewer than 16 goes by 8 codes and one by one. Each part's
+// function adds to the sums so far, so that its contract speaks of the row up to a place; all of them are inlined. That the
+// codes left are counted down lets LLVM see that the shorter turns run once. The order of the structs' fields, and of the
+// operations on them, decides whether the vectoriser takes all sums: measure each change, with the levels a literal and not.
 ghost use mathlib.Core.Path.{_≡_};
 ghost use Prim.Native.Nat.{_+_, _-_, _*_, _≤_, _<_};
 ghost use lib.IntN.{natAbs, pos, _*ℤ_};
 ghost use lib.ListN.{length, getD};
 ghost use lib.Dec.{leb};
-ghost use Rattle.codes.specs.Codes.{codes, part, RowSums, RowCheck};
-ghost use Rattle.codes.specs.Sums.{Small, Checked, Summed, CodeAdded, CodeChecked, SumsAdded, ChecksAdded, maskedAt};
+ghost use Rattle.codes.specs.Codes.{codes, part, Small, RowSums, RowCheck};
+ghost use Rattle.codes.specs.Sums.{maskedAt, Checked, Summed, CodeAdded, CodeChecked, SumsAdded, ChecksAdded};
 
-// Of a row, or a part of one: whether every code is within 127, the sum of the squared codes, the dot product.
+// Of a row, or a part of one: the dot product, the sum of the squared codes, whether every code is within the levels.
 pub struct Sums {
-    pub whole: bool,
-    pub squares: u32,
     pub dot: i32,
+    pub squares: u32,
+    pub whole: bool,
 }
 
 // The same without the dot product.
 pub struct Check {
-    pub whole: bool,
     pub squares: u32,
+    pub whole: bool,
 }
 
 // ---- one code
@@ -42,14 +46,17 @@ fn square(x: i8) -> u32
     (z * z) as u32
 }
 
-fn within_127(x: i8) -> bool
-    ensures { λ r. ⌜ r ≡ leb (natAbs x) 127 ⌝ }
+// The code and the levels in one byte, which is over twice the levels where the code is beyond them: one vector addition and
+// comparison, also where the levels are known beforehand.
+fn within(levels: u8, x: i8) -> bool
+    requires { ⌜ levels ≤ 127 ⌝ }
+    ensures { λ r. ⌜ r ≡ leb (natAbs x) levels ⌝ }
 {
-    x != -128
+    (((x as i32 + 256) as u32 + levels as u32) % 256) as u8 <= 2 * levels
 }
 
-// The code x at place j of 16, of which the last k - 1 are taken: 0 before those. 17 takes all. That k is one more than
-// the count, and a byte, lets LLVM make the 16 comparisons one vector comparison.
+// The code x at place j of a part, 0 at the places before 17 - k; 17 takes all. That k is a byte, and of a rest one more than its
+// codes, lets LLVM make the 16 comparisons one vector comparison.
 fn masked(x: i8, j: usize, k: u8) -> i8
     requires { ⌜ (j < 16) × (k ≤ 17) ⌝ }
     ensures { λ r. ⌜ r ≡ maskedAt j k x ⌝ }
@@ -59,27 +66,25 @@ fn masked(x: i8, j: usize, k: u8) -> i8
 
 // ---- a code more, and the sums of two parts
 
-fn add_code(s: Sums, x: i8, y: i16, j: usize, k: u8) -> Sums
+fn add_code(levels: u8, s: Sums, x: i8, y: i16) -> Sums
     requires { ⌜ natAbs y ≤ 128 ⌝ }
-    requires { ⌜ (j < 16) × (k ≤ 17) × (natAbs (s .dot) ≤ 1073741824) × (s .squares ≤ 1073741824) ⌝ }
-    ensures { λ r. ⌜ CodeAdded (maskedAt j k x) y s r ⌝ }
+    requires { ⌜ (natAbs (s .dot) ≤ 1073741824) × (s .squares ≤ 1073741824) × (levels ≤ 127) ⌝ }
+    ensures { λ r. ⌜ CodeAdded levels x y s r ⌝ }
 {
-    let z = masked(x, j, k);
     Sums {
-        dot: s.dot + product(z, y),
-        squares: s.squares + square(z),
-        whole: s.whole & within_127(z),
+        dot: s.dot + product(x, y),
+        squares: s.squares + square(x),
+        whole: s.whole & within(levels, x),
     }
 }
 
-fn add_code_check(s: Check, x: i8, j: usize, k: u8) -> Check
-    requires { ⌜ (j < 16) × (k ≤ 17) × (s .squares ≤ 1073741824) ⌝ }
-    ensures { λ r. ⌜ CodeChecked (maskedAt j k x) (s .squares) (r .squares) (s .whole) (r .whole) ⌝ }
+fn add_code_check(levels: u8, s: Check, x: i8) -> Check
+    requires { ⌜ (s .squares ≤ 1073741824) × (levels ≤ 127) ⌝ }
+    ensures { λ r. ⌜ CodeChecked levels x (s .squares) (r .squares) (s .whole) (r .whole) ⌝ }
 {
-    let z = masked(x, j, k);
     Check {
-        squares: s.squares + square(z),
-        whole: s.whole & within_127(z),
+        squares: s.squares + square(x),
+        whole: s.whole & within(levels, x),
     }
 }
 
@@ -113,202 +118,362 @@ fn code_at(c: &[u8], p: usize) -> i8
     (((c[p] as u32 + 128) % 256) as i32 - 128) as i8
 }
 
-// Of n codes of the row at `at` and of the query, both from place i on, those from the place 17 - k on.
-fn sums_part(c: &[u8], at: usize, q: &[i16], i: usize, k: u8, n: usize) -> Sums
-    requires { ⌜ (at + length (now q) ≤ length (now c)) × (i + n ≤ length (now q)) × (n ≤ 16) × (k ≤ 17) × (17 ≤ n + k) ⌝ }
-    requires { ⌜ Small (now q) ⌝ }
-    ensures { λ r. ⌜ Summed (n - (17 - k)) (codes (now (c .entry))) at (now (q .entry)) (i + (17 - k)) r ⌝ }
+// The sums of the row at `at` and the query up to place e, given a, those up to place i: the n codes before e are summed, those
+// before i taken as 0.
+fn sums_part(
+    levels: u8,
+    c: &[u8],
+    at: usize,
+    q: &[i16],
+    a: Sums,
+    i: usize,
+    e: usize,
+    n: usize,
+) -> Sums
+    requires { ⌜ (at + length (now q) ≤ length (now c)) × (length (now q) ≤ 65536) × (levels ≤ 127) × (i ≤ e) × (e ≤ i + n) × (n ≤ e) × (n ≤ 16) × (e ≤ length (now q)) ⌝ }
+    requires { ⌜ Small (now q) × Summed levels i (codes (now c)) at (now q) 0 a ⌝ }
+    ensures { λ r. ⌜ Summed levels e (codes (now (c .entry))) at (now (q .entry)) 0 r ⌝ }
 {
+    let p = e - n;
+    let k = (e - i + 17 - n) as u8;
     let mut s = Sums {
-        whole: true,
-        squares: 0,
         dot: 0,
+        squares: 0,
+        whole: true,
     };
     let mut j = 0usize;
     while j < n {
-        s = add_code(s, code_at(c, at + i + j), q[i + j], j, k);
+        s = add_code(levels, s, masked(code_at(c, at + p + j), j, k), q[p + j]);
         j += 1;
     }
-    s
+    add_sums(a, s)
 }
 
 // The same without the query.
-fn check_part(c: &[u8], at: usize, i: usize, k: u8, n: usize) -> Check
-    requires { ⌜ (at + i + n ≤ length (now c)) × (n ≤ 16) × (k ≤ 17) ⌝ }
-    ensures { λ r. ⌜ Checked (n - (17 - k)) (codes (now (c .entry))) at (i + (17 - k)) (r .squares) (r .whole) ⌝ }
+fn check_part(levels: u8, c: &[u8], at: usize, a: Check, i: usize, e: usize, n: usize) -> Check
+    requires { ⌜ (at + e ≤ length (now c)) × (e ≤ 65536) × (levels ≤ 127) × (i ≤ e) × (e ≤ i + n) × (n ≤ e) × (n ≤ 16) ⌝ }
+    requires { ⌜ Checked levels i (codes (now c)) at 0 (a .squares) (a .whole) ⌝ }
+    ensures { λ r. ⌜ Checked levels e (codes (now (c .entry))) at 0 (r .squares) (r .whole) ⌝ }
 {
+    let p = e - n;
+    let k = (e - i + 17 - n) as u8;
     let mut s = Check {
-        whole: true,
         squares: 0,
+        whole: true,
     };
     let mut j = 0usize;
     while j < n {
-        s = add_code_check(s, code_at(c, at + i + j), j, k);
+        s = add_code_check(levels, s, masked(code_at(c, at + p + j), j, k));
         j += 1;
     }
-    s
+    add_checks(a, s)
 }
 
 // The row at `at`, as long as the query.
-pub fn row_sums(c: &[u8], at: usize, q: &[i16]) -> Sums
-    requires { ⌜ (at + length (now q) ≤ length (now c)) × (length (now q) ≤ 65536) ⌝ }
+pub fn row_sums(levels: u8, c: &[u8], at: usize, q: &[i16]) -> Sums
+    requires { ⌜ (at + length (now q) ≤ length (now c)) × (length (now q) ≤ 65536) × (levels ≤ 127) ⌝ }
     requires { ⌜ Small (now q) ⌝ }
-    ensures { λ r. ⌜ RowSums (part (length (now (q .entry))) (codes (now (c .entry))) at) (now (q .entry)) r ⌝ }
+    ensures { λ r. ⌜ RowSums levels (part (length (now (q .entry))) (codes (now (c .entry))) at) (now (q .entry)) r ⌝ }
 {
     let n = q.len();
-    if n < 16 {
-        return sums_part(c, at, q, 0, 17, n);
-    }
     let mut s = Sums {
-        whole: true,
-        squares: 0,
         dot: 0,
+        squares: 0,
+        whole: true,
     };
     let mut i = 0usize;
-    while i + 32 <= n {
-        let a = sums_part(c, at, q, i, 17, 16);
-        let b = sums_part(c, at, q, i + 16, 17, 16);
-        s = add_sums(s, add_sums(a, b));
-        i += 32;
-    }
-    if i + 16 <= n {
-        s = add_sums(s, sums_part(c, at, q, i, 17, 16));
-        i += 16;
-    }
-    if i == n {
+    if n < 16 {
+        while i + 8 <= n {
+            s = sums_part(levels, c, at, q, s, i, i + 8, 8);
+            i += 8;
+        }
+        while i < n {
+            s = sums_part(levels, c, at, q, s, i, i + 1, 1);
+            i += 1;
+        }
         return s;
     }
-    let e = n - 16;
-    add_sums(s, sums_part(c, at, q, e, (n - i + 1) as u8, 16))
+    let mut r = n;
+    while 64 <= r {
+        s = sums_part(levels, c, at, q, s, i, i + 16, 16);
+        i += 16;
+        s = sums_part(levels, c, at, q, s, i, i + 16, 16);
+        i += 16;
+        s = sums_part(levels, c, at, q, s, i, i + 16, 16);
+        i += 16;
+        s = sums_part(levels, c, at, q, s, i, i + 16, 16);
+        i += 16;
+        r -= 64;
+    }
+    while 32 <= r {
+        s = sums_part(levels, c, at, q, s, i, i + 16, 16);
+        i += 16;
+        s = sums_part(levels, c, at, q, s, i, i + 16, 16);
+        i += 16;
+        r -= 32;
+    }
+    while 16 <= r {
+        s = sums_part(levels, c, at, q, s, i, i + 16, 16);
+        i += 16;
+        r -= 16;
+    }
+    if r == 0 {
+        return s;
+    }
+    sums_part(levels, c, at, q, s, i, n, 16)
 }
 
 // The row of n codes at `at`.
-pub fn row_check(c: &[u8], at: usize, n: usize) -> Check
-    requires { ⌜ (at + n ≤ length (now c)) × (n ≤ 65536) ⌝ }
-    ensures { λ r. ⌜ RowCheck (part n (codes (now (c .entry))) at) r ⌝ }
+pub fn row_check(levels: u8, c: &[u8], at: usize, n: usize) -> Check
+    requires { ⌜ (at + n ≤ length (now c)) × (n ≤ 65536) × (levels ≤ 127) ⌝ }
+    ensures { λ r. ⌜ RowCheck levels (part n (codes (now (c .entry))) at) r ⌝ }
 {
-    if n < 16 {
-        return check_part(c, at, 0, 17, n);
-    }
     let mut s = Check {
-        whole: true,
         squares: 0,
+        whole: true,
     };
     let mut i = 0usize;
-    while i + 32 <= n {
-        let a = check_part(c, at, i, 17, 16);
-        let b = check_part(c, at, i + 16, 17, 16);
-        s = add_checks(s, add_checks(a, b));
-        i += 32;
-    }
-    if i + 16 <= n {
-        s = add_checks(s, check_part(c, at, i, 17, 16));
-        i += 16;
-    }
-    if i == n {
+    if n < 16 {
+        while i + 8 <= n {
+            s = check_part(levels, c, at, s, i, i + 8, 8);
+            i += 8;
+        }
+        while i < n {
+            s = check_part(levels, c, at, s, i, i + 1, 1);
+            i += 1;
+        }
         return s;
     }
-    let e = n - 16;
-    add_checks(s, check_part(c, at, e, (n - i + 1) as u8, 16))
+    let mut r = n;
+    while 128 <= r {
+        s = check_part(levels, c, at, s, i, i + 16, 16);
+        i += 16;
+        s = check_part(levels, c, at, s, i, i + 16, 16);
+        i += 16;
+        s = check_part(levels, c, at, s, i, i + 16, 16);
+        i += 16;
+        s = check_part(levels, c, at, s, i, i + 16, 16);
+        i += 16;
+        s = check_part(levels, c, at, s, i, i + 16, 16);
+        i += 16;
+        s = check_part(levels, c, at, s, i, i + 16, 16);
+        i += 16;
+        s = check_part(levels, c, at, s, i, i + 16, 16);
+        i += 16;
+        s = check_part(levels, c, at, s, i, i + 16, 16);
+        i += 16;
+        r -= 128;
+    }
+    while 64 <= r {
+        s = check_part(levels, c, at, s, i, i + 16, 16);
+        i += 16;
+        s = check_part(levels, c, at, s, i, i + 16, 16);
+        i += 16;
+        s = check_part(levels, c, at, s, i, i + 16, 16);
+        i += 16;
+        s = check_part(levels, c, at, s, i, i + 16, 16);
+        i += 16;
+        r -= 64;
+    }
+    while 32 <= r {
+        s = check_part(levels, c, at, s, i, i + 16, 16);
+        i += 16;
+        s = check_part(levels, c, at, s, i, i + 16, 16);
+        i += 16;
+        r -= 32;
+    }
+    while 16 <= r {
+        s = check_part(levels, c, at, s, i, i + 16, 16);
+        i += 16;
+        r -= 16;
+    }
+    if r == 0 {
+        return s;
+    }
+    check_part(levels, c, at, s, i, n, 16)
 }
 
 // ---- a resident row
 
-// Of n codes of the row at `at` and of the query, both from place i on, those from the place 17 - k on.
-fn sums_part_resident(c: &[i8], at: usize, q: &[i16], i: usize, k: u8, n: usize) -> Sums
-    requires { ⌜ (at + length (now q) ≤ length (now c)) × (i + n ≤ length (now q)) × (n ≤ 16) × (k ≤ 17) × (17 ≤ n + k) ⌝ }
-    requires { ⌜ Small (now q) ⌝ }
-    ensures { λ r. ⌜ Summed (n - (17 - k)) (now (c .entry)) at (now (q .entry)) (i + (17 - k)) r ⌝ }
+// The sums of the row at `at` and the query up to place e, given a, those up to place i: the n codes before e are summed, those
+// before i taken as 0.
+fn sums_part_resident(
+    levels: u8,
+    c: &[i8],
+    at: usize,
+    q: &[i16],
+    a: Sums,
+    i: usize,
+    e: usize,
+    n: usize,
+) -> Sums
+    requires { ⌜ (at + length (now q) ≤ length (now c)) × (length (now q) ≤ 65536) × (levels ≤ 127) × (i ≤ e) × (e ≤ i + n) × (n ≤ e) × (n ≤ 16) × (e ≤ length (now q)) ⌝ }
+    requires { ⌜ Small (now q) × Summed levels i (now c) at (now q) 0 a ⌝ }
+    ensures { λ r. ⌜ Summed levels e (now (c .entry)) at (now (q .entry)) 0 r ⌝ }
 {
+    let p = e - n;
+    let k = (e - i + 17 - n) as u8;
     let mut s = Sums {
-        whole: true,
-        squares: 0,
         dot: 0,
+        squares: 0,
+        whole: true,
     };
     let mut j = 0usize;
     while j < n {
-        s = add_code(s, c[at + i + j], q[i + j], j, k);
+        s = add_code(levels, s, masked(c[at + p + j], j, k), q[p + j]);
         j += 1;
     }
-    s
+    add_sums(a, s)
 }
 
 // The same without the query.
-fn check_part_resident(c: &[i8], at: usize, i: usize, k: u8, n: usize) -> Check
-    requires { ⌜ (at + i + n ≤ length (now c)) × (n ≤ 16) × (k ≤ 17) ⌝ }
-    ensures { λ r. ⌜ Checked (n - (17 - k)) (now (c .entry)) at (i + (17 - k)) (r .squares) (r .whole) ⌝ }
+fn check_part_resident(
+    levels: u8,
+    c: &[i8],
+    at: usize,
+    a: Check,
+    i: usize,
+    e: usize,
+    n: usize,
+) -> Check
+    requires { ⌜ (at + e ≤ length (now c)) × (e ≤ 65536) × (levels ≤ 127) × (i ≤ e) × (e ≤ i + n) × (n ≤ e) × (n ≤ 16) ⌝ }
+    requires { ⌜ Checked levels i (now c) at 0 (a .squares) (a .whole) ⌝ }
+    ensures { λ r. ⌜ Checked levels e (now (c .entry)) at 0 (r .squares) (r .whole) ⌝ }
 {
+    let p = e - n;
+    let k = (e - i + 17 - n) as u8;
     let mut s = Check {
-        whole: true,
         squares: 0,
+        whole: true,
     };
     let mut j = 0usize;
     while j < n {
-        s = add_code_check(s, c[at + i + j], j, k);
+        s = add_code_check(levels, s, masked(c[at + p + j], j, k));
         j += 1;
     }
-    s
+    add_checks(a, s)
 }
 
 // The row at `at`, as long as the query.
-pub fn row_sums_resident(c: &[i8], at: usize, q: &[i16]) -> Sums
-    requires { ⌜ (at + length (now q) ≤ length (now c)) × (length (now q) ≤ 65536) ⌝ }
+pub fn row_sums_resident(levels: u8, c: &[i8], at: usize, q: &[i16]) -> Sums
+    requires { ⌜ (at + length (now q) ≤ length (now c)) × (length (now q) ≤ 65536) × (levels ≤ 127) ⌝ }
     requires { ⌜ Small (now q) ⌝ }
-    ensures { λ r. ⌜ RowSums (part (length (now (q .entry))) (now (c .entry)) at) (now (q .entry)) r ⌝ }
+    ensures { λ r. ⌜ RowSums levels (part (length (now (q .entry))) (now (c .entry)) at) (now (q .entry)) r ⌝ }
 {
     let n = q.len();
-    if n < 16 {
-        return sums_part_resident(c, at, q, 0, 17, n);
-    }
     let mut s = Sums {
-        whole: true,
-        squares: 0,
         dot: 0,
+        squares: 0,
+        whole: true,
     };
     let mut i = 0usize;
-    while i + 32 <= n {
-        let a = sums_part_resident(c, at, q, i, 17, 16);
-        let b = sums_part_resident(c, at, q, i + 16, 17, 16);
-        s = add_sums(s, add_sums(a, b));
-        i += 32;
-    }
-    if i + 16 <= n {
-        s = add_sums(s, sums_part_resident(c, at, q, i, 17, 16));
-        i += 16;
-    }
-    if i == n {
+    if n < 16 {
+        while i + 8 <= n {
+            s = sums_part_resident(levels, c, at, q, s, i, i + 8, 8);
+            i += 8;
+        }
+        while i < n {
+            s = sums_part_resident(levels, c, at, q, s, i, i + 1, 1);
+            i += 1;
+        }
         return s;
     }
-    let e = n - 16;
-    add_sums(s, sums_part_resident(c, at, q, e, (n - i + 1) as u8, 16))
+    let mut r = n;
+    while 64 <= r {
+        s = sums_part_resident(levels, c, at, q, s, i, i + 16, 16);
+        i += 16;
+        s = sums_part_resident(levels, c, at, q, s, i, i + 16, 16);
+        i += 16;
+        s = sums_part_resident(levels, c, at, q, s, i, i + 16, 16);
+        i += 16;
+        s = sums_part_resident(levels, c, at, q, s, i, i + 16, 16);
+        i += 16;
+        r -= 64;
+    }
+    while 32 <= r {
+        s = sums_part_resident(levels, c, at, q, s, i, i + 16, 16);
+        i += 16;
+        s = sums_part_resident(levels, c, at, q, s, i, i + 16, 16);
+        i += 16;
+        r -= 32;
+    }
+    while 16 <= r {
+        s = sums_part_resident(levels, c, at, q, s, i, i + 16, 16);
+        i += 16;
+        r -= 16;
+    }
+    if r == 0 {
+        return s;
+    }
+    sums_part_resident(levels, c, at, q, s, i, n, 16)
 }
 
 // The row of n codes at `at`.
-pub fn row_check_resident(c: &[i8], at: usize, n: usize) -> Check
-    requires { ⌜ (at + n ≤ length (now c)) × (n ≤ 65536) ⌝ }
-    ensures { λ r. ⌜ RowCheck (part n (now (c .entry)) at) r ⌝ }
+pub fn row_check_resident(levels: u8, c: &[i8], at: usize, n: usize) -> Check
+    requires { ⌜ (at + n ≤ length (now c)) × (n ≤ 65536) × (levels ≤ 127) ⌝ }
+    ensures { λ r. ⌜ RowCheck levels (part n (now (c .entry)) at) r ⌝ }
 {
-    if n < 16 {
-        return check_part_resident(c, at, 0, 17, n);
-    }
     let mut s = Check {
-        whole: true,
         squares: 0,
+        whole: true,
     };
     let mut i = 0usize;
-    while i + 32 <= n {
-        let a = check_part_resident(c, at, i, 17, 16);
-        let b = check_part_resident(c, at, i + 16, 17, 16);
-        s = add_checks(s, add_checks(a, b));
-        i += 32;
-    }
-    if i + 16 <= n {
-        s = add_checks(s, check_part_resident(c, at, i, 17, 16));
-        i += 16;
-    }
-    if i == n {
+    if n < 16 {
+        while i + 8 <= n {
+            s = check_part_resident(levels, c, at, s, i, i + 8, 8);
+            i += 8;
+        }
+        while i < n {
+            s = check_part_resident(levels, c, at, s, i, i + 1, 1);
+            i += 1;
+        }
         return s;
     }
-    let e = n - 16;
-    add_checks(s, check_part_resident(c, at, e, (n - i + 1) as u8, 16))
+    let mut r = n;
+    while 128 <= r {
+        s = check_part_resident(levels, c, at, s, i, i + 16, 16);
+        i += 16;
+        s = check_part_resident(levels, c, at, s, i, i + 16, 16);
+        i += 16;
+        s = check_part_resident(levels, c, at, s, i, i + 16, 16);
+        i += 16;
+        s = check_part_resident(levels, c, at, s, i, i + 16, 16);
+        i += 16;
+        s = check_part_resident(levels, c, at, s, i, i + 16, 16);
+        i += 16;
+        s = check_part_resident(levels, c, at, s, i, i + 16, 16);
+        i += 16;
+        s = check_part_resident(levels, c, at, s, i, i + 16, 16);
+        i += 16;
+        s = check_part_resident(levels, c, at, s, i, i + 16, 16);
+        i += 16;
+        r -= 128;
+    }
+    while 64 <= r {
+        s = check_part_resident(levels, c, at, s, i, i + 16, 16);
+        i += 16;
+        s = check_part_resident(levels, c, at, s, i, i + 16, 16);
+        i += 16;
+        s = check_part_resident(levels, c, at, s, i, i + 16, 16);
+        i += 16;
+        s = check_part_resident(levels, c, at, s, i, i + 16, 16);
+        i += 16;
+        r -= 64;
+    }
+    while 32 <= r {
+        s = check_part_resident(levels, c, at, s, i, i + 16, 16);
+        i += 16;
+        s = check_part_resident(levels, c, at, s, i, i + 16, 16);
+        i += 16;
+        r -= 32;
+    }
+    while 16 <= r {
+        s = check_part_resident(levels, c, at, s, i, i + 16, 16);
+        i += 16;
+        r -= 16;
+    }
+    if r == 0 {
+        return s;
+    }
+    check_part_resident(levels, c, at, s, i, n, 16)
 }

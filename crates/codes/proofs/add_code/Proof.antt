@@ -1,9 +1,8 @@
 -- Assumes nothing.
-use mathlib.Core.Path.{_∙_}
 use borrow.Author.Needs.{needs}
 use native.Mathlib.Omega.{arith}
 use mir.Facts.{toZ-ofZ}
-use Rattle.codes.proofs.Numbers.{held8, sum-fits, sum-held}
+use Rattle.codes.proofs.Numbers.{sum-fits, sum-held}
 use Rattle.codes.proofs.Rows.{code-checked}
 use Rattle.codes.proofs.add_code.Statement.{statement}
 use Rattle.codes.proofs.add_code.Tie as tie
@@ -11,21 +10,19 @@ use Rattle.codes.proofs.add_code.Tie as tie
 returns : tie.Need-returns
 returns c =
     let d = c .before .before .before .before .before .before in
-    let s = d .before .before in
-    let z = d .before .masked in
-    let e = rw (toZ-ofZ (s .fits .x)) at (held8 {x = z .result} (z .ok) ∙ z .ensures) in
+    let s = d .before in
+    let e = toZ-ofZ (s .fits .x) in
     let p = rw (e, toZ-ofZ (s .fits .y)) at (d .product .ensures) in
     record {
       dotted = rw (sum-held (s .args .s .dot) (d .product .result) (omega (arith, s .pre, p .1)), p .0);
       size = rw (p .0) at (p .1);
-      checked = code-checked e (c .before .before .before .square .ensures) (c .before .within-127 .ensures);
+      checked = code-checked e (c .before .before .before .square .ensures) (c .before .within .ensures);
     }
 
 pub add-code-spec : {M : Type 1} → statement M
 add-code-spec = tie.close (tie.spec
-    (λ c κs. search needs)
-    (λ c κs. rw (toZ-ofZ (c .before .fits .y)) (c .before .pre .0))
-    (λ c. let s = c .before .before .before .before in sum-fits (s .args .s .dot) (c .before .before .product .result) (omega (arith, s .pre, c .before .before .product .ensures)))
+    (λ c κs. rw (toZ-ofZ (c .fits .y)) (c .pre .0))
+    (λ c. let s = c .before .before .before in sum-fits (s .args .s .dot) (c .before .before .product .result) (omega (arith, s .pre, c .before .before .product .ensures)))
     (λ c κs. search needs)
     (λ c. search needs)
     (λ c κs. search needs)

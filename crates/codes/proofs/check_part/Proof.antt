@@ -1,21 +1,20 @@
--- Assumes nothing.
 use Prim.Native.Nat.{_+_, _-_, _≤_}
-use mathlib.Core.Path.{_≡_, _∙_}
+use mathlib.Core.Path.{_∙_}
 use lib.ListN.{length-map}
 use Rattle.codes.specs.Codes.{codes}
 use Rattle.codes.specs.Sums.{Checked}
 use Rattle.codes.proofs.Numbers.{held8}
-use Rattle.codes.proofs.Rows.{check-start, check-code}
+use Rattle.codes.proofs.Rows.{check-start, check-code, check-add}
 use borrow.Author.Needs.{needs}
 use native.Mathlib.Omega.{arith}
 use Rattle.codes.proofs.check_part.Statement.{statement}
 use Rattle.codes.proofs.check_part.Tie as tie
 
 abbrev Inv-loop : tie.InvT-loop
-Inv-loop c at i k n s₀ j₀ s j = (j ≤ n) × Checked (j - (17 - k)) (codes c) at (i + (17 - k)) (s .squares) (s .whole)
+Inv-loop levels c at a i e n p k s₀ j₀ s j = (j ≤ n) × Checked levels (p + j - i) (codes c) at i (s .squares) (s .whole)
 
 abbrev μ-loop : tie.MeasureT-loop
-μ-loop c at i k n s₀ j₀ s j = n - j
+μ-loop levels c at a i e n p k s₀ j₀ s j = n - j
 
 pub check-part-spec : {M : Type 1} → statement M
 check-part-spec =
@@ -23,15 +22,22 @@ check-part-spec =
     (tie.spec
     Inv-loop
     μ-loop
+    (λ c. search needs)
+    (λ c. search needs)
+    (λ c. search needs)
+    (λ c. search needs)
+    (λ c. search needs)
     (λ c. (search needs, check-start (omega arith)))
     (λ c. search needs)
     (λ c. search needs)
     (λ c κs. search needs)
     (λ c κs. search needs)
+    (λ c κs. search needs)
     (λ c. search needs)
     (λ c. search needs)
-    (λ c. let m = c .before .before .before in
-    let z = m .before .before in
-    let x = c .before .code-at in
-    (search needs, check-code (z .args .at) (z .args .i) (m .loop .j) (z .args .k) (simp length-map (omega (arith, z .pre))) (held8 {x = x .result} (x .ok) ∙ x .ensures) (c .add-code-check .ensures) (m .loop .inv .1)))
-    (λ c. let n : c .before .loop .j ≡ c .before .before .before .args .n = omega arith in rw n at (c .before .loop .inv .1)))
+    (λ c. let m = c .before .before .before .before in
+    let u = m .before .before .args in
+    let z = c .before .masked in
+    (search needs, check-code (u .at) (u .i) (u .e - u .n) (m .loop .j) (u .e - u .i + 17 - u .n) (omega arith) (simp length-map (omega arith)) (held8 {x = c .before .before .code-at .result} (c .before .before .code-at .ok) ∙ c .before .before .code-at .ensures) (rw (held8 {x = z .result} (z .ok), z .ensures) at (c .add-code-check .ensures)) (m .loop .inv .1)))
+    (λ c κs. omega (arith, c .before .before .before .pre .1 .size, c .before .loop .inv .1 .size))
+    (λ c. check-add (omega arith) (omega arith) (c .add-checks .ensures) (c .before .before .before .before .pre .1) (c .before .before .loop .inv .1)))

@@ -1,32 +1,43 @@
--- Assumes nothing.
-use Prim.Native.Nat.{_+_, _-_, _≤_, _<_}
+use Prim.Native.Nat.{_+_, _-_, _≤_}
 use mathlib.Core.Path.{_≡_, refl}
-use mathlib.Core.Logic.{⊎-elim}
-use native.Mathlib.Omega.{arith}
-use borrow.Author.Needs.{needs}
-use lib.ListN.{length, length-map}
+use lib.ListN.{length-map}
 use Rattle.codes.specs.Codes.{codes}
 use Rattle.codes.specs.Sums.{Summed}
-use Rattle.codes.proofs.Rows.{sums-start, sums-add, sums-done}
+use Rattle.codes.proofs.Rows.{sums-start, sums-done}
+use borrow.Author.Needs.{needs}
+use native.Mathlib.Omega.{arith}
 use Rattle.codes.proofs.row_sums.Statement.{statement}
 use Rattle.codes.proofs.row_sums.Tie as tie
 
 abbrev Inv-loop : tie.InvT-loop
-Inv-loop c at q n s₀ i₀ s i = (i ≤ n) × (n ≡ length q) × Summed i (codes c) at q 0 s
+Inv-loop levels c at q n s₀ i₀ s i = (i ≤ n) × Summed levels i (codes c) at q 0 s
 
 abbrev μ-loop : tie.MeasureT-loop
-μ-loop c at q n s₀ i₀ s i = n - i
+μ-loop levels c at q n s₀ i₀ s i = n - i
 
--- what holds after the part of 16
-after-part : (c : tie.Joined2 Inv-loop μ-loop) → let z = c .before .before .before .before .before in
-    let q = z .args .q .now in
-    Inv-loop (z .args .c .now) (z .args .at) q (length q) (c .if2 .s) 0 (c .if2 .s) (c .if2 .i) × (length q < c .if2 .i + 16)
-after-part c =
-    let m = c .before .before .loop .inv .2 in
-    ⊎-elim
-    (λ w. rw (w .3, w .4) ((omega arith, refl, sums-add (omega arith) refl (w .2 .ensures) m (w .1 .ensures)), omega arith))
-    (λ w. rw (w .1, w .2) ((omega arith, refl, m), omega arith))
-    (c .if2 .came)
+abbrev Inv-loop2 : tie.InvT-loop2
+Inv-loop2 levels c at q n s₀ i₀ s i = (i ≤ n) × Summed levels i (codes c) at q 0 s
+
+abbrev μ-loop2 : tie.MeasureT-loop2
+μ-loop2 levels c at q n s₀ i₀ s i = n - i
+
+abbrev Inv-loop3 : tie.InvT-loop3
+Inv-loop3 levels c at q n s₀ i₀ r₀ s i r = (i + r ≡ n) × Summed levels i (codes c) at q 0 s
+
+abbrev μ-loop3 : tie.MeasureT-loop3
+μ-loop3 levels c at q n s₀ i₀ r₀ s i r = r
+
+abbrev Inv-loop4 : tie.InvT-loop4
+Inv-loop4 levels c at q n s₀ i₀ r₀ s i r = (i + r ≡ n) × Summed levels i (codes c) at q 0 s
+
+abbrev μ-loop4 : tie.MeasureT-loop4
+μ-loop4 levels c at q n s₀ i₀ r₀ s i r = r
+
+abbrev Inv-loop5 : tie.InvT-loop5
+Inv-loop5 levels c at q n s₀ i₀ r₀ s i r = (i + r ≡ n) × Summed levels i (codes c) at q 0 s
+
+abbrev μ-loop5 : tie.MeasureT-loop5
+μ-loop5 levels c at q n s₀ i₀ r₀ s i r = r
 
 pub row-sums-spec : {M : Type 1} → statement M
 row-sums-spec =
@@ -34,28 +45,58 @@ row-sums-spec =
     (tie.spec
     Inv-loop
     μ-loop
-    (λ c κs. search needs)
-    (λ c. sums-done (omega arith) refl (c .sums-part .ensures))
-    (λ c. (search needs, search needs, sums-start refl (simp length-map (omega (arith, c .before .before .pre .0))) (omega arith) refl refl refl))
+    Inv-loop2
+    μ-loop2
+    Inv-loop3
+    μ-loop3
+    Inv-loop4
+    μ-loop4
+    Inv-loop5
+    μ-loop5
+    (λ c. (search needs, sums-start refl (simp length-map (omega (arith, c .before .before .pre .0))) (omega arith) refl refl refl))
     (λ c. search needs)
-    (λ c κs. search needs)
     (λ c. search needs)
-    (λ c κs. search needs)
-    (λ c κs. search needs)
-    (λ c κs. search needs)
+    (λ c κs. (search needs, (c .before .before .before .before .pre .1, c .before .loop .inv .1)))
     (λ c. search needs)
     (λ c. search needs)
-    (λ c. let m = c .before .before .before .before .before .loop .inv .2 in
-    let p = sums-add (omega arith) refl (c .before .add-sums .ensures) (c .before .before .before .sums-part2 .ensures) (c .before .before .sums-part3 .ensures) in
-    (search needs, refl, sums-add (omega arith) refl (c .add-sums2 .ensures) m p))
+    (λ c. (search needs, c .sums-part .ensures))
+    (λ c. c .before .loop .inv)
     (λ c. search needs)
-    (λ c κs. search needs)
-    (λ c κs. search needs)
+    (λ c κs. (search needs, (c .before .before .before .before .before .before .pre .1, c .before .loop2 .inv .1)))
     (λ c. search needs)
-    (λ c. sums-done (c .if3 .taken) refl (after-part (c .before) .0 .2))
-    (λ c. after-part (c .before .before) .0 .0)
     (λ c. search needs)
-    (λ c. let m = after-part (c .before .before) in search needs)
-    (λ c κs. let m = after-part (c .before .before) in (search needs, c .before .before .before .before .before .before .before .pre .1))
-    (λ c κs. let m = after-part (c .before .before .before) in search needs)
-    (λ c. let m = after-part (c .before .before .before .before) in sums-done refl refl (sums-add (omega arith) (omega arith) (c .add-sums4 .ensures) (m .0 .2) (c .before .sums-part5 .ensures))))
+    (λ c. (search needs, c .sums-part2 .ensures))
+    (λ c. sums-done (omega arith) refl (c .before .loop2 .inv .1))
+    (λ c. (search needs, sums-start refl (simp length-map (omega (arith, c .before .before .pre .0))) (omega arith) refl refl refl))
+    (λ c. let m = c .before .loop3 .inv in let p = c .before .before .before .before .pre in let t = c .loop3-test .taken in search needs)
+    (λ c κs. let m = c .before .loop3 .inv in let p = c .before .before .before .before .pre in let t = c .loop3-test .taken in (search needs, (c .before .before .before .before .pre .1, c .before .loop3 .inv .1)))
+    (λ c. let m = c .before .before .loop3 .inv in let p = c .before .before .before .before .before .pre in let t = c .before .loop3-test .taken in search needs)
+    (λ c. let m = c .before .before .loop3 .inv in let p = c .before .before .before .before .before .pre in let t = c .before .loop3-test .taken in search needs)
+    (λ c κs. let m = c .before .before .loop3 .inv in let p = c .before .before .before .before .before .pre in let t = c .before .loop3-test .taken in (search needs, (c .before .before .before .before .before .pre .1, c .sums-part3 .ensures)))
+    (λ c. let m = c .before .before .before .loop3 .inv in let p = c .before .before .before .before .before .before .pre in let t = c .before .before .loop3-test .taken in search needs)
+    (λ c. let m = c .before .before .before .loop3 .inv in let p = c .before .before .before .before .before .before .pre in let t = c .before .before .loop3-test .taken in search needs)
+    (λ c κs. let m = c .before .before .before .loop3 .inv in let p = c .before .before .before .before .before .before .pre in let t = c .before .before .loop3-test .taken in (search needs, (c .before .before .before .before .before .before .pre .1, c .sums-part4 .ensures)))
+    (λ c. let m = c .before .before .before .before .loop3 .inv in let p = c .before .before .before .before .before .before .before .pre in let t = c .before .before .before .loop3-test .taken in search needs)
+    (λ c. let m = c .before .before .before .before .loop3 .inv in let p = c .before .before .before .before .before .before .before .pre in let t = c .before .before .before .loop3-test .taken in search needs)
+    (λ c κs. let m = c .before .before .before .before .loop3 .inv in let p = c .before .before .before .before .before .before .before .pre in let t = c .before .before .before .loop3-test .taken in (search needs, (c .before .before .before .before .before .before .before .pre .1, c .sums-part5 .ensures)))
+    (λ c. let m = c .before .before .before .before .before .loop3 .inv in let p = c .before .before .before .before .before .before .before .before .pre in let t = c .before .before .before .before .loop3-test .taken in search needs)
+    (λ c. let m = c .before .before .before .before .before .loop3 .inv in let p = c .before .before .before .before .before .before .before .before .pre in let t = c .before .before .before .before .loop3-test .taken in search needs)
+    (λ c. let m = c .before .before .before .before .before .loop3 .inv in let p = c .before .before .before .before .before .before .before .before .pre in let t = c .before .before .before .before .loop3-test .taken in (search needs, c .sums-part6 .ensures))
+    (λ c. c .before .loop3 .inv)
+    (λ c. search needs)
+    (λ c κs. (search needs, (c .before .before .before .before .before .before .pre .1, c .before .loop4 .inv .1)))
+    (λ c. search needs)
+    (λ c. search needs)
+    (λ c κs. (search needs, (c .before .before .before .before .before .before .before .pre .1, c .sums-part7 .ensures)))
+    (λ c. search needs)
+    (λ c. search needs)
+    (λ c. (search needs, c .sums-part8 .ensures))
+    (λ c. c .before .loop4 .inv)
+    (λ c. search needs)
+    (λ c κs. (search needs, (c .before .before .before .before .before .before .before .before .pre .1, c .before .loop5 .inv .1)))
+    (λ c. search needs)
+    (λ c. search needs)
+    (λ c. (search needs, c .sums-part9 .ensures))
+    (λ c. sums-done (omega arith) refl (c .before .before .loop5 .inv .1))
+    (λ c κs. (search needs, (c .before .before .before .before .before .before .before .before .before .pre .1, c .before .before .loop5 .inv .1)))
+    (λ c. sums-done refl refl (c .sums-part10 .ensures)))
