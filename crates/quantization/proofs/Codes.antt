@@ -5,7 +5,7 @@ use mathlib.Core.List.{List, [], _∷_, map}
 use Prim.Native.Nat.{ℕ, zero, suc, _-_, _*_, _%_, _≤_}
 use native.Mathlib.Nat.{mul-le-mul}
 use native.Mathlib.Omega.{arith}
-use borrow.Author.Tests.{lt-ltb, le-ltb}
+use borrow.Author.Tests.{lt-ltb, le-ltb, le-leb}
 use lib.Dec.{T, leb, leb→le}
 use lib.IntN.{ℤ, pos, negsuc, negℤ, natAbs, _-ℤ_, +ℤ-idl}
 use lib.ListN.{getD}
@@ -60,6 +60,11 @@ pub within-at : (k : ℕ) (cs : List ℤ) (i : ℕ) → within k cs ≡ true →
 within-at k [] i h = omega arith
 within-at k (z ∷ cs) zero h = within-cons k z cs h .0
 within-at k (z ∷ cs) (suc i) h = within-at k cs i (within-cons k z cs h .1)
+
+pub within-more : (k n : ℕ) → k ≤ n → (cs : List ℤ) → within k cs ≡ true → within n cs ≡ true
+unfolding within
+within-more k n l [] h = refl
+within-more k n l (z ∷ cs) h = let c = within-cons k z cs h in rw (le-leb (natAbs z) n (omega (arith, c .0)), within-more k n l cs (c .1))
 
 -- ---- back from bytes
 byte-back : (z : ℤ) → natAbs z ≤ 127 → signed (ofZ w8 z) ≡ z

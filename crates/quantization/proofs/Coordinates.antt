@@ -26,7 +26,7 @@ use Rattle.config.specs.Vector.{all, finites, largestBits}
 use Rattle.config.specs.Vector as vector
 use Rattle.config.proofs.Vectors.{finites-largest}
 use Rattle.config.proofs.Coordinates.{all-cons}
-use Rattle.quantization.specs.Encoder.{largest, largestFrom, scaleBy, scaleOf, notAbove, signedBy, codeOf, midpoints}
+use Rattle.quantization.specs.Encoder.{largest, largestFrom, scaleBy, scaleOf, notAbove, signedBy, codeOf}
 use Rattle.quantization.proofs.Scales.{Plain}
 
 -- what fits is made of its patterns
@@ -81,8 +81,8 @@ module _ (bs : List ℕ) (h : finites (map (ofBits binary32) bs) ≡ true) where
   pub largest-small : largestBits bs < 2139095040
   largest-small = ltb-true (largestBits bs) 2139095040 (sym (finites-largest bs) ∙ h)
 
-  pub scale-is : {s : Float} → s ≡ scaleBy 127 (ofBits binary32 (largestBits bs)) → s ≡ scaleOf 127 (map (ofBits binary32) bs)
-  scale-is e = rw largest-is e
+  pub scale-is : (levels : ℕ) {s : Float} → s ≡ scaleBy levels (ofBits binary32 (largestBits bs)) → s ≡ scaleOf levels (map (ofBits binary32) bs)
+  scale-is levels e = rw largest-is e
 
   plain-patterns : Plain (largest (map (ofBits binary32) bs))
   plain-patterns = rw largest-is (plain-of (largestBits bs) largest-small)
@@ -117,6 +117,6 @@ module _ (b : ℕ) (s : Float) (h : T (finite (ofBits binary32 b))) (p : T (posi
       let f = plain-of c (small-bits binary32 b h) .fine in
       (div-number binary64 (ofBits binary32 c) s f (q .0) (q .2), code-sign c s f p ∙ lt-leb 2147483648 c (omega arith))
 
-  pub code-is : {m : ℕ} → m ≡ notAbove midpoints (abs (div binary64 (ofBits binary32 b) s)) → signedBy (leb (2 ^ 31) b) m ≡ codeOf midpoints (div binary64 (ofBits binary32 b) s)
+  pub code-is : (mids : List Float) {m : ℕ} → m ≡ notAbove mids (abs (div binary64 (ofBits binary32 b) s)) → signedBy (leb (2 ^ 31) b) m ≡ codeOf mids (div binary64 (ofBits binary32 b) s)
   unfolding codeOf
-  code-is e = rw (code-sign b s h p, e)
+  code-is mids e = rw (code-sign b s h p, e)

@@ -1,6 +1,6 @@
 -- Laws that belong to no one function.
 pub mod Midpoints
-pub mod Starts
+pub mod Walks
 pub mod Scales
 pub mod Coordinates
 pub mod Codes

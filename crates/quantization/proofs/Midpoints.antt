@@ -1,21 +1,23 @@
--- Counting the midpoints, and the one that decides. Assumes nothing.
+-- The midpoints: their list, their order, the count of those not above a number, and the walk that counts. Assumes nothing.
 use mathlib.Core.Path.{_≡_, refl, ap}
-use mathlib.Core.Logic.{_⊎_, inl, inr}
-use mathlib.Core.Bool.{Bool, true, false, cond}
+use mathlib.Core.Bool.{Bool, true, false, not, cond, true≢false}
 use mathlib.Core.List.{List, [], _∷_}
 use Prim.Native.Nat.{ℕ, zero, suc, _+_, _≤_, _<_}
-use native.Mathlib.Nat.{eq-or-lt-of-le}
 use native.Mathlib.Omega.{arith}
-use borrow.Author.Tests.{ltb-true, ltb-false}
-use lib.Dec.{ltb}
-use lib.ListN.{length, getD}
-use lib.Ieee.{Float, nan, le}
-use Rattle.le.proofs.Chain.{by}
-use Rattle.quantization.specs.Encoder.{notAbove, midpoint, midpointsFrom, midpoints}
-use Rattle.quantization.specs.Walk.{Undecided}
+use native.Mathlib.Nat.{zero-add}
+use lib.Dec.{T}
+use lib.ListN.{length, getD, drop, length-drop}
+use lib.Ieee.{Float, nan, inf, fin, le, isNan}
+use lib.Ieee.Bits.{is-true}
+use lib.Seq.{drop-cons, getD-drop}
+use Rattle.float.specs.Order.{negative}
+use Rattle.float.proofs.Within.{Within}
+use Rattle.float.proofs.Bounds.{within-trans, within-of-le, le-of-within}
+use Rattle.quantization.specs.Encoder.{notAbove, midpoint, midpointsFrom, midpointsOf}
+use Rattle.quantization.specs.Walk.{Walked}
 
 -- ---- the list
-pub length-midpoints : (k n : ℕ) → length (midpointsFrom k n) ≡ n
+length-midpoints : (k n : ℕ) → length (midpointsFrom k n) ≡ n
 length-midpoints k zero = refl
 length-midpoints k (suc n) = ap suc (length-midpoints (suc k) n)
 
@@ -24,10 +26,27 @@ from k zero j h = absurd (omega arith)
 from k (suc n) zero h = let e : k + 0 ≡ k = omega arith in rw e
 from k (suc n) (suc j) h = let e : k + suc j ≡ suc k + j = omega arith in rw e (from (suc k) n j (omega arith))
 
--- a lent table's entry
-pub entry : (t : List Float) (k : ℕ) → t ≡ midpoints → k < 127 → getD t k nan ≡ midpoint k
-unfolding midpoints
-entry t k e h = let z : 0 + k ≡ k = omega arith in rw e (rw z at (from 0 127 k h))
+pub levels-are : (levels : ℕ) → length (midpointsOf levels) ≡ levels
+unfolding midpointsOf
+levels-are levels = length-midpoints 0 levels
+
+pub formula-at : (levels i : ℕ) → i < levels → getD (midpointsOf levels) i nan ≡ midpoint i
+unfolding midpointsOf
+formula-at levels i h = let z : 0 + i ≡ i = omega arith in rw z at (from 0 levels i h)
+
+-- ---- the order
+pub rising : (k j : ℕ) → k ≤ j → Within (midpoint k) (midpoint j)
+rising k j h = record { fine = tt; bound = tt; order = omega arith }
+
+-- what is within y is not above an x that y is not above
+pub le-through : (m y x : Float) → negative m ≡ false → negative y ≡ false → T (not (isNan x)) → negative x ≡ false → Within m y → T (le y x) → le m x ≡ true
+unfolding le isNan
+le-through m y nan p q n r w h = absurd n
+le-through m y (inf true) p q n r w h = absurd (true≢false r)
+le-through nan y (inf false) p q n r w h = absurd (w .fine)
+le-through (inf s) y (inf false) p q n r w h = absurd (w .fine)
+le-through (fin s m e) y (inf false) p q n r w h = refl
+le-through m y (fin s a b) p q n r w h = is-true (le m (fin s a b)) (le-of-within m (fin s a b) p r (within-trans w (within-of-le y (fin s a b) q r tt h)))
 
 -- ---- the count
 bit : (b : Bool) → cond {A = ℕ} b 1 0 ≤ 1
@@ -39,43 +58,28 @@ unfolding notAbove
 at-most [] x = omega arith
 at-most (m ∷ mids) x = omega (arith, at-most mids x, bit (le m x))
 
-none : (k n : ℕ) (x : Float) → ((j : ℕ) → k ≤ j → j < k + n → le (midpoint j) x ≡ false) → notAbove (midpointsFrom k n) x ≡ 0
+pub none : (mids : List Float) (x : Float) → ((j : ℕ) → j < length mids → le (getD mids j nan) x ≡ false) → notAbove mids x ≡ 0
 unfolding notAbove
-none k zero x h = refl
-none k (suc n) x h = rw (h k (omega arith) (omega arith), none (suc k) n x (λ j l m. h j (omega arith) (omega arith)))
+none [] x h = refl
+none (m ∷ mids) x h = rw (h 0 (omega arith), none mids x (λ j l. h (suc j) (omega arith)))
 
--- the midpoints before number i are not above x, those from it on are
-split : (k n i : ℕ) (x : Float) → k ≤ i → i ≤ k + n → ((j : ℕ) → k ≤ j → j < i → le (midpoint j) x ≡ true)
-    → ((j : ℕ) → i ≤ j → j < k + n → le (midpoint j) x ≡ false) → i ≡ k + notAbove (midpointsFrom k n) x
-unfolding notAbove
-split k zero i x l u a b = omega arith
-split k (suc n) i x l u a b =
-    by (ltb k i)
-    (λ t. let h = ltb-true k i t in
-    rw (a k (omega arith) h) (omega (arith, split (suc k) n i x h (omega arith) (λ j p q. a j (omega arith) q) (λ j p q. b j p (omega arith)))))
-    (λ t. let h = ltb-false k i t in
-    rw (b k h (omega arith), none (suc k) n x (λ j p q. b j (omega arith) (omega arith))) (omega arith))
+-- ---- the walk over any midpoints
+module _ {mids : List Float} {x : Float} where
+  -- a turn
+  pub walked-turn : (k : ℕ) → k < length mids → le (getD mids k nan) x ≡ true → Walked mids x k → Walked mids x (suc k)
+  unfolding notAbove
+  walked-turn k h e w = record { so = omega (arith, rw (drop-cons mids k nan h, e) at (w .so)) }
 
-pub counted : (i : ℕ) (x : Float) → i ≤ 127 → ((j : ℕ) → j < i → le (midpoint j) x ≡ true) → ((j : ℕ) → i ≤ j → j < 127 → le (midpoint j) x ≡ false)
-    → i ≡ notAbove midpoints x
-unfolding midpoints
-counted i x h a b = omega (arith, split 0 127 i x (omega arith) (omega arith) (λ j p q. a j q) (λ j p q. b j p (omega arith)))
+  -- it has come to k if no midpoint before k is above x
+  pub walked-to : (k : ℕ) → k ≤ length mids → ((j : ℕ) → j < k → le (getD mids j nan) x ≡ true) → Walked mids x k
+  walked-to zero h a = record { so = zero-add (notAbove mids x) }
+  walked-to (suc k) h a = walked-turn k h (a k (omega arith)) (walked-to k (omega arith) (λ j l. a j (omega arith)))
 
--- one comparison decides
-module _ {x v : Float} {k : ℕ} (u : Undecided 127 x k) (e : v ≡ midpoint k) where
-  pub one-more : le v x ≡ true → (k + 1 ≡ notAbove midpoints x) × (k + 1 ≤ 127)
-  one-more t = (
-    counted (k + 1) x (omega (arith, u .inside)) (λ j h. under j (eq-or-lt-of-le h)) (λ j h l. u .after j (omega arith) l),
-    omega (arith, u .inside),
-  )
-    where
-      under : (j : ℕ) → (suc j ≡ k + 1) ⊎ (suc j < k + 1) → le (midpoint j) x ≡ true
-      under j (inl s) = let i : j ≡ k = omega arith in rw (i, ← e) t
-      under j (inr l) = u .before j (omega arith)
+  -- and its place is the count if all from k on are
+  pub walked-done : (k : ℕ) → Walked mids x k → ((j : ℕ) → k ≤ j → j < length mids → le (getD mids j nan) x ≡ false) → k ≡ notAbove mids x
+  walked-done k w b =
+      omega (arith, w .so, none (drop k mids) x (λ j h. rw (getD-drop k mids j nan) (b (k + j) (omega arith) (omega (arith, rw (length-drop k mids) at h)))))
 
-  pub no-more : le v x ≡ false → (k ≡ notAbove midpoints x) × (k ≤ 127)
-  no-more t = (counted k x (omega (arith, u .inside)) (u .before) (λ j h l. over j (eq-or-lt-of-le h) l), omega (arith, u .inside))
-    where
-      over : (j : ℕ) → (k ≡ j) ⊎ (k < j) → j < 127 → le (midpoint j) x ≡ false
-      over j (inl s) l = rw (← s, ← e) t
-      over j (inr h) l = u .after j h l
+-- of the formula's midpoints it has passed all
+pub walked-all : (levels : ℕ) {x : Float} {k : ℕ} → Walked (midpointsOf levels) x k → levels ≤ k → k ≡ notAbove (midpointsOf levels) x
+walked-all levels {k = k} w h = walked-done k w (λ j l m. absurd (omega (arith, rw (levels-are levels) at m)))

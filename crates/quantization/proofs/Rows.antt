@@ -19,25 +19,25 @@ use Rattle.le.proofs.LeLaws.{length-bytes, le-bytes-all}
 use Rattle.le.proofs.Pastes.{paste-two}
 use Rattle.codes.specs.Codes.{signed, within}
 use Rattle.quantization.specs.View.{View, rowBytes, rowAt}
-use Rattle.quantization.specs.Encoder.{encode, midpoints}
+use Rattle.quantization.specs.Encoder.{encode}
 use Rattle.quantization.proofs.Codes.{bytes-back}
 use Rattle.quantization.proofs.Stores.{Whole}
 
 -- ---- written
-module _ {v : List Float} {s : Float} {total : ℕ} where
+module _ {levels : ℕ} {mids v : List Float} {s : Float} {total : ℕ} where
   -- the codes alone
-  pub front : {d out : List ℤ} → Whole (λ z. z) v 0 d s total out → out ≡ encode 127 midpoints v .codes ++ drop (length v) d
-  front {d} w = w .so ∙ rw (zero-add (length v), map-id (encode 127 midpoints v .codes))
+  pub front : {d out : List ℤ} → Whole levels mids (λ z. z) v 0 d s total out → out ≡ encode levels mids v .codes ++ drop (length v) d
+  front {d} w = w .so ∙ rw (zero-add (length v), map-id (encode levels mids v .codes))
 
-  pub front-only : {d out : List ℤ} → length d ≡ length v → Whole (λ z. z) v 0 d s total out → out ≡ encode 127 midpoints v .codes
-  front-only {d} e w = front w ∙ rw (drop-of-length-le d {i = length v} (omega arith), append-nil (encode 127 midpoints v .codes))
+  pub front-only : {d out : List ℤ} → length d ≡ length v → Whole levels mids (λ z. z) v 0 d s total out → out ≡ encode levels mids v .codes
+  front-only {d} e w = front w ∙ rw (drop-of-length-le d {i = length v} (omega arith), append-nil (encode levels mids v .codes))
 
   -- and the scale and the norm before them
-  pub row-is : {d out : List ℕ} → length d ≡ 16 + length v → Whole (ofZ w8) v 16 d s total out
-      → paste (paste out 0 (bytes 8 (toBits binary64 s))) 8 (bytes 8 (ofZ w64 (toZ w64 total))) ≡ rowBytes (encode 127 midpoints v)
+  pub row-is : {d out : List ℕ} → length d ≡ 16 + length v → Whole levels mids (ofZ w8) v 16 d s total out
+      → paste (paste out 0 (bytes 8 (toBits binary64 s))) 8 (bytes 8 (ofZ w64 (toZ w64 total))) ≡ rowBytes (encode levels mids v)
   unfolding rowBytes
   row-is {d} {out} e w =
-      let r = encode 127 midpoints v in
+      let r = encode levels mids v in
       let cs = map (ofZ w8) (r .codes) in
       let a = bytes 8 (toBits binary64 (r .scale)) in
       let b = bytes 8 (ofZ w64 (r .norm)) in

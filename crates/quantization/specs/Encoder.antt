@@ -1,10 +1,14 @@
 -- The encoder (document 01, The arithmetic, Encoder), over a level count and a list of midpoints: 127 and 0.5, 1.5 .. 126.5 in the
 -- base. Each f64 operation rounds once.
+use mathlib.Core.Path.{_≡_}
 use mathlib.Core.List.{List, [], _∷_, map}
 use mathlib.Core.Bool.{Bool, true, false, cond}
-use Prim.Native.Nat.{ℕ, zero, suc, _+_, _*_}
+use Prim.Native.Nat.{ℕ, zero, suc, _+_, _*_, _-_, _≤_, _<_}
 use lib.IntN.{ℤ, pos, negsuc, negℤ}
-use lib.Ieee.{Float, fin, binary64, div, lt, le, eq, ofInt}
+use lib.Dec.{T}
+use lib.ListN.{length, getD}
+use lib.Ieee.{Float, nan, fin, binary64, div, lt, le, eq, ofInt}
+use lib.Ieee.Positive.{positive}
 use Rattle.float.specs.Values.{zero as nought, one, abs}
 use Rattle.float.specs.Order.{negative}
 use Rattle.codes.specs.Codes.{squares}
@@ -53,9 +57,23 @@ abbrev pub midpointsFrom : ℕ → ℕ → List Float
 midpointsFrom k zero = []
 midpointsFrom k (suc n) = midpoint k ∷ midpointsFrom (suc k) n
 
--- the level count of the base
+unfoldable pub midpointsOf : ℕ → List Float
+midpointsOf levels = midpointsFrom 0 levels
+
+-- a level count: document 02 (x), "a level count from 1 to 127"
+abbrev pub Levels : ℕ → Type 0
+Levels n = (1 ≤ n) × (n ≤ 127)
+
+-- the level count of the base, and its midpoints
 abbrev pub baseLevels : ℕ
 baseLevels = 127
 
-unfoldable pub midpoints : List Float
-midpoints = midpointsFrom 0 baseLevels
+abbrev pub midpoints : List Float
+midpoints = midpointsOf baseLevels
+
+-- What the laws ask of any other list of midpoints (document 02 (xi): "one f64 a level. They must be finite, above 0 .., and the first
+-- at most levels - 0.5"); none asks that they rise.
+pub record Table (levels : ℕ) (mids : List Float) : Type 0 where
+  pub count : length mids ≡ levels
+  pub first : le (getD mids 0 nan) (midpoint (levels - 1)) ≡ true
+  pub plus : (i : ℕ) → i < levels → T (positive (getD mids i nan))

@@ -33,9 +33,10 @@ isCount (pos n) w = eqb n w
 isCount (negsuc n) w = false
 
 -- Document 01, The arithmetic, Row valid: "scale finite and above 0, no code -128, norm equal to that sum, and not 0 under
--- cosine"; w is the sum of the squared codes, and whole says that no code is beyond the levels
-abbrev pub rowTest : Metric → Float → ℤ → ℕ → Bool → Bool
-rowTest metric scale norm w whole = finite scale && lt nought scale && whole && isCount norm w && not (isCosine metric && isCount norm 0)
+-- cosine"; w is the sum of the squared codes, and whole says that no code is beyond the levels. The range of the scale does not yet
+-- depend on the levels (document 02 (vi), (x): it divides by them).
+abbrev pub rowTest : ℕ → Metric → Float → ℤ → ℕ → Bool → Bool
+rowTest levels metric scale norm w whole = finite scale && lt nought scale && whole && isCount norm w && not (isCosine metric && isCount norm 0)
 
 unfoldable pub validRow : ℕ → Metric → View → Bool
-validRow levels metric r = rowTest metric (r .scale) (r .norm) (squares (r .codes)) (within levels (r .codes))
+validRow levels metric r = rowTest levels metric (r .scale) (r .norm) (squares (r .codes)) (within levels (r .codes))

@@ -3,7 +3,7 @@
 ghost use mathlib.Core.Path.{_≡_};
 ghost use mathlib.Core.Bool.{true, false, not};
 ghost use mathlib.Core.List.{map, _++_};
-ghost use Prim.Native.Nat.{_+_, _-_, _*_, _≤_, _^_};
+ghost use Prim.Native.Nat.{_+_, _-_, _*_, _≤_, _<_, _^_};
 ghost use lib.Dec.{T, leb};
 ghost use lib.ListN.{length, drop};
 ghost use lib.Ieee.{binary32, binary64, ofBits, toBits, div, isNan};
@@ -15,8 +15,8 @@ ghost use Rattle.float.specs.Values.{abs};
 ghost use Rattle.float.specs.Order.{negative};
 ghost use Rattle.config.specs.Vector.{finites, floatsAt, largestBits};
 ghost use Rattle.quantization.specs.View.{rowBytes};
-ghost use Rattle.quantization.specs.Encoder.{scaleBy, notAbove, signedBy, encode, midpoints};
-ghost use Rattle.quantization.specs.Walk.{held as heldOf, Undecided};
+ghost use Rattle.quantization.specs.Encoder.{Levels, scaleBy, notAbove, signedBy, encode, midpointsOf, midpoints};
+ghost use Rattle.quantization.specs.Walk.{held as heldOf, Walked};
 
 // A row's scale and norm, as one value.
 pub struct Row {
@@ -24,7 +24,10 @@ pub struct Row {
     pub norm: i64,
 }
 
-// The midpoints between the magnitudes of codes.
+// The level count of the base: magnitudes of codes from 0 to 127.
+pub const BASE_LEVELS: u32 = 127;
+
+// The midpoints between the magnitudes of codes, of 127 levels; fewer levels use the first of them.
 const MIDPOINTS: [f64; 127] = [
     0.5,
     1.5,
@@ -163,56 +166,63 @@ pub fn midpoints_table() -> [f64; 127]
 }
 
 // The scale, from the largest pattern without its sign.
-fn scale_of(most: u32) -> f64
-    ensures { λ r. ⌜ r ≡ scaleBy 127 (ofBits binary32 most) ⌝ }
+fn scale_of(levels: u32, most: u32) -> f64
+    ensures { λ r. ⌜ r ≡ scaleBy levels (ofBits binary32 most) ⌝ }
 {
     let x = float::f32_value(most);
     if x == 0.0 {
         return 1.0;
     }
-    x / 127.0
+    x / (levels as f64)
 }
 
-// The lesser of x and 126.
-fn held(x: f64) -> f64
-    ensures { λ r. ⌜ r ≡ heldOf x ⌝ }
+// The lesser of x and top.
+fn held(top: f64, x: f64) -> f64
+    ensures { λ r. ⌜ r ≡ heldOf top x ⌝ }
 {
-    if x < 126.0 {
+    if x < top {
         return x;
     }
-    126.0
+    top
 }
 
-// A whole number nearest to x, held at 126: a sum with 2^52 keeps no digit below 1, so its pattern counts. The midpoint after that
-// number is the only one that it does not decide.
-fn start(x: f64) -> usize
+// Where the walk starts: a whole number nearest to x, held at the last level but one; no midpoint before it is above x. A sum with 2^52 keeps
+// no digit below 1, so its pattern counts.
+fn start(levels: u32, x: f64) -> usize
+    requires { ⌜ Levels levels ⌝ }
     requires { ⌜ T (not (isNan x)) × (negative x ≡ false) ⌝ }
-    ensures { λ r. ⌜ Undecided 127 x r ⌝ }
+    ensures { λ r. ⌜ (r < levels) × Walked (midpointsOf levels) x r ⌝ }
 {
-    (f64::to_bits(held(x) + 4503599627370496.0) - 4841369599423283200) as usize
+    (f64::to_bits(held((levels - 1) as f64, x) + 4503599627370496.0) - 4841369599423283200) as usize
 }
 
-// The number of midpoints not above x.
-fn walk(t: &[f64; 127], x: f64) -> u32
-    requires { ⌜ now t ≡ midpoints ⌝ }
+// The number of midpoints not above x, of the first `levels`: they rise, so the walk ends at the first that is above x. It goes by z, which is below
+// the last midpoint, and that one is compared with x apart: so a row's largest coordinate takes the same branches as the others.
+fn walk(t: &[f64; 127], levels: u32, x: f64) -> u32
+    requires { ⌜ (now t ≡ midpoints) × Levels levels ⌝ }
     requires { ⌜ T (not (isNan x)) × (negative x ≡ false) ⌝ }
-    ensures { λ r. ⌜ (r ≡ notAbove midpoints x) × (r ≤ 127) ⌝ }
+    ensures { λ r. ⌜ (r ≡ notAbove (midpointsOf levels) x) × (r ≤ 127) ⌝ }
 {
-    let k = start(x);
-    if t[k] <= x {
-        return k as u32 + 1;
+    let last = levels - 1;
+    let z = held(last as f64, x);
+    let mut k = start(levels, x);
+    while t[k] <= z {
+        k += 1;
+        if k == levels as usize {
+            return levels;
+        }
     }
-    k as u32
+    k as u32 + (t[last as usize] <= x) as u32
 }
 
 // The magnitude of the code of the coordinate of pattern b: the quotient's magnitude is the magnitude's quotient (`code-abs`).
-fn magnitude(t: &[f64; 127], b: u32, scale: f64) -> u32
-    requires { ⌜ now t ≡ midpoints ⌝ }
+fn magnitude(t: &[f64; 127], levels: u32, b: u32, scale: f64) -> u32
+    requires { ⌜ (now t ≡ midpoints) × Levels levels ⌝ }
     requires { ⌜ T (finite (ofBits binary32 b)) × T (positive scale) ⌝ }
-    ensures { λ r. ⌜ (r ≡ notAbove midpoints (abs (div binary64 (ofBits binary32 b) scale))) × (r ≤ 127) ⌝ }
+    ensures { λ r. ⌜ (r ≡ notAbove (midpointsOf levels) (abs (div binary64 (ofBits binary32 b) scale))) × (r ≤ 127) ⌝ }
 {
     let x = f32::from_bits(b % 2147483648) as f64;
-    walk(t, x / scale)
+    walk(t, levels, x / scale)
 }
 
 // The code of magnitude m with the sign of the pattern b, which is the quotient's (`code-sign`); and its byte, in two's complement.
@@ -246,19 +256,19 @@ fn add_square(norm: u32, m: u32) -> u32
 }
 
 // The row of the n coordinates at a place of a record, into its own part of a cache, which is 16 + n bytes long.
-pub fn encode_row(t: &[f64; 127], s: &[u8], at: usize, out: &mut [u8]) -> Row
-    requires { ⌜ now t ≡ midpoints ⌝ }
+pub fn encode_row(t: &[f64; 127], levels: u32, s: &[u8], at: usize, out: &mut [u8]) -> Row
+    requires { ⌜ (now t ≡ midpoints) × Levels levels ⌝ }
     requires { ⌜ (16 ≤ length (now out)) × (length (now out) ≤ 4112) × (at + 4 * (length (now out) - 16) ≤ length (now s)) ⌝ }
     requires { ⌜ finites (floatsAt (length (now out) - 16) (now s) at) ≡ true ⌝ }
-    ensures { λ r. ⌜ (let e = encode 127 midpoints (floatsAt (length (now (out .entry)) - 16) (now (s .entry)) at) in (now (out .exit) ≡ rowBytes e) × (r .scale ≡ e .scale) × (r .norm ≡ e .norm)) ⌝ }
+    ensures { λ r. ⌜ (let e = encode levels (midpointsOf levels) (floatsAt (length (now (out .entry)) - 16) (now (s .entry)) at) in (now (out .exit) ≡ rowBytes e) × (r .scale ≡ e .scale) × (r .norm ≡ e .norm)) ⌝ }
 {
     let n = out.len() - 16;
-    let scale = scale_of(config::largest_bits(s, at, n));
+    let scale = scale_of(levels, config::largest_bits(s, at, n));
     let mut norm: u32 = 0;
     let mut i = 0;
     while i < n {
         let b = le::u32_at(s, at + 4 * i);
-        let m = magnitude(t, b, scale);
+        let m = magnitude(t, levels, b, scale);
         norm = add_square(norm, m);
         out[16 + i] = byte(b, m);
         i += 1;
@@ -272,19 +282,19 @@ pub fn encode_row(t: &[f64; 127], s: &[u8], at: usize, out: &mut [u8]) -> Row
 }
 
 // The same with the codes alone stored, as i8s.
-pub fn encode_resident(t: &[f64; 127], s: &[u8], at: usize, out: &mut [i8]) -> Row
-    requires { ⌜ now t ≡ midpoints ⌝ }
+pub fn encode_resident(t: &[f64; 127], levels: u32, s: &[u8], at: usize, out: &mut [i8]) -> Row
+    requires { ⌜ (now t ≡ midpoints) × Levels levels ⌝ }
     requires { ⌜ (length (now out) ≤ 4096) × (at + 4 * length (now out) ≤ length (now s)) ⌝ }
     requires { ⌜ finites (floatsAt (length (now out)) (now s) at) ≡ true ⌝ }
-    ensures { λ r. ⌜ (let e = encode 127 midpoints (floatsAt (length (now (out .entry))) (now (s .entry)) at) in (now (out .exit) ≡ e .codes) × (r .scale ≡ e .scale) × (r .norm ≡ e .norm)) ⌝ }
+    ensures { λ r. ⌜ (let e = encode levels (midpointsOf levels) (floatsAt (length (now (out .entry))) (now (s .entry)) at) in (now (out .exit) ≡ e .codes) × (r .scale ≡ e .scale) × (r .norm ≡ e .norm)) ⌝ }
 {
     let n = out.len();
-    let scale = scale_of(config::largest_bits(s, at, n));
+    let scale = scale_of(levels, config::largest_bits(s, at, n));
     let mut norm: u32 = 0;
     let mut i = 0;
     while i < n {
         let b = le::u32_at(s, at + 4 * i);
-        let m = magnitude(t, b, scale);
+        let m = magnitude(t, levels, b, scale);
         norm = add_square(norm, m);
         out[i] = code(b, m);
         i += 1;
@@ -313,19 +323,19 @@ fn largest_bits(v: &[f32]) -> u32
 }
 
 // The codes of f32s, widened, at the front of out.
-pub fn encode_query(t: &[f64; 127], v: &[f32], out: &mut [i16]) -> Row
-    requires { ⌜ now t ≡ midpoints ⌝ }
+pub fn encode_query(t: &[f64; 127], levels: u32, v: &[f32], out: &mut [i16]) -> Row
+    requires { ⌜ (now t ≡ midpoints) × Levels levels ⌝ }
     requires { ⌜ (length (now v) ≤ 4096) × (length (now v) ≤ length (now out)) ⌝ }
     requires { ⌜ finites (now v) ≡ true ⌝ }
-    ensures { λ r. ⌜ (let e = encode 127 midpoints (now (v .entry)) in (now (out .exit) ≡ e .codes ++ drop (length (now (v .entry))) (now (out .entry))) × (r .scale ≡ e .scale) × (r .norm ≡ e .norm)) ⌝ }
+    ensures { λ r. ⌜ (let e = encode levels (midpointsOf levels) (now (v .entry)) in (now (out .exit) ≡ e .codes ++ drop (length (now (v .entry))) (now (out .entry))) × (r .scale ≡ e .scale) × (r .norm ≡ e .norm)) ⌝ }
 {
     let n = v.len();
-    let scale = scale_of(largest_bits(v));
+    let scale = scale_of(levels, largest_bits(v));
     let mut norm: u32 = 0;
     let mut i = 0;
     while i < n {
         let b = f32::to_bits(v[i]);
-        let m = magnitude(t, b, scale);
+        let m = magnitude(t, levels, b, scale);
         norm = add_square(norm, m);
         out[i] = code(b, m) as i16;
         i += 1;

@@ -11,17 +11,18 @@ use lib.Ieee.Scale.{finite}
 use Rattle.float.proofs.BitLaws.{finite-number}
 use Rattle.quantization.proofs.Codes.{fits-i16, as-i16}
 use Rattle.quantization.proofs.Coordinates.{of-patterns}
+use Rattle.quantization.specs.Encoder.{midpointsOf}
 use Rattle.quantization.proofs.Stores.{float-at, Stored, stored-start, stored-asks, stored-turn, stored-done}
 use Rattle.quantization.proofs.Rows.{front}
 use Rattle.quantization.proofs.encode_query.Statement.{statement}
 use Rattle.quantization.proofs.encode_query.Tie as tie
 
 abbrev Inv-loop : tie.InvT-loop
-Inv-loop t v out₀ n scale norm₀ i₀ out norm i =
-    (i ≤ n) × (n ≡ length v) × (length out ≡ length out₀) × Stored (λ z. z) v 0 out₀ scale i norm out
+Inv-loop t levels v out₀ n scale norm₀ i₀ out norm i =
+    (i ≤ n) × (n ≡ length v) × (length out ≡ length out₀) × Stored levels (midpointsOf levels) (λ z. z) v 0 out₀ scale i norm out
 
 abbrev μ-loop : tie.MeasureT-loop
-μ-loop t v out₀ n scale norm₀ i₀ out norm i = n - i
+μ-loop t levels v out₀ n scale norm₀ i₀ out norm i = n - i
 
 pub encode-query-spec : {M : Type 1} → statement M
 encode-query-spec =
@@ -35,7 +36,7 @@ encode-query-spec =
       search needs,
       search needs,
       search needs,
-      stored-start (map (toBits binary32) v) (of-patterns v (all-by (fits binary32) v nan (c .before .before .shared-slice-known .given))) (c .before .before .before .pre .1 .1)
+      stored-start (c .before .before .before .pre .0 .1) (map (toBits binary32) v) (of-patterns v (all-by (fits binary32) v nan (c .before .before .shared-slice-known .given))) (c .before .before .before .pre .1 .1)
           (rw (c .before .largest-bits .ensures) at (c .scale-of .ensures)),
     ))
     (λ c. search needs)

@@ -7,17 +7,18 @@ use lib.ListN.{length, length-set}
 use Rattle.config.specs.Vector.{floatsAt, patternsAt}
 use Rattle.config.proofs.Vectors.{length-floats}
 use Rattle.quantization.proofs.Codes.{as-i8}
+use Rattle.quantization.specs.Encoder.{midpointsOf}
 use Rattle.quantization.proofs.Stores.{record-at, Stored, stored-start, stored-asks, stored-turn, stored-done}
 use Rattle.quantization.proofs.Rows.{front-only}
 use Rattle.quantization.proofs.encode_resident.Statement.{statement}
 use Rattle.quantization.proofs.encode_resident.Tie as tie
 
 abbrev Inv-loop : tie.InvT-loop
-Inv-loop t s at out₀ n scale norm₀ i₀ out norm i =
-    (i ≤ n) × (n ≡ length out₀) × (length out ≡ length out₀) × Stored (λ z. z) (floatsAt n s at) 0 out₀ scale i norm out
+Inv-loop t levels s at out₀ n scale norm₀ i₀ out norm i =
+    (i ≤ n) × (n ≡ length out₀) × (length out ≡ length out₀) × Stored levels (midpointsOf levels) (λ z. z) (floatsAt n s at) 0 out₀ scale i norm out
 
 abbrev μ-loop : tie.MeasureT-loop
-μ-loop t s at out₀ n scale norm₀ i₀ out norm i = n - i
+μ-loop t levels s at out₀ n scale norm₀ i₀ out norm i = n - i
 
 pub encode-resident-spec : {M : Type 1} → statement M
 encode-resident-spec =
@@ -31,7 +32,7 @@ encode-resident-spec =
       search needs,
       search needs,
       search needs,
-      stored-start (patternsAt (length (a .out .now)) (a .s .now) (a .at)) refl (c .before .before .before .pre .1 .1) (rw (c .before .largest-bits .ensures) at (c .scale-of .ensures)),
+      stored-start (c .before .before .before .pre .0 .1) (patternsAt (length (a .out .now)) (a .s .now) (a .at)) refl (c .before .before .before .pre .1 .1) (rw (c .before .largest-bits .ensures) at (c .scale-of .ensures)),
     ))
     (λ c. search needs)
     (λ c. search needs)

@@ -10,17 +10,18 @@ use Rattle.le.specs.Le.{bytes, paste}
 use Rattle.float.proofs.BitLaws.{finite-number}
 use Rattle.config.specs.Vector.{floatsAt, patternsAt}
 use Rattle.config.proofs.Vectors.{length-floats}
+use Rattle.quantization.specs.Encoder.{midpointsOf}
 use Rattle.quantization.proofs.Stores.{record-at, Stored, stored-start, stored-asks, stored-turn, stored-done}
 use Rattle.quantization.proofs.Rows.{row-is}
 use Rattle.quantization.proofs.encode_row.Statement.{statement}
 use Rattle.quantization.proofs.encode_row.Tie as tie
 
 abbrev Inv-loop : tie.InvT-loop
-Inv-loop t s at out₀ n scale norm₀ i₀ out norm i =
-    (i ≤ n) × (n ≡ length out₀ - 16) × (length out ≡ length out₀) × Stored (ofZ w8) (floatsAt n s at) 16 out₀ scale i norm out
+Inv-loop t levels s at out₀ n scale norm₀ i₀ out norm i =
+    (i ≤ n) × (n ≡ length out₀ - 16) × (length out ≡ length out₀) × Stored levels (midpointsOf levels) (ofZ w8) (floatsAt n s at) 16 out₀ scale i norm out
 
 abbrev μ-loop : tie.MeasureT-loop
-μ-loop t s at out₀ n scale norm₀ i₀ out norm i = n - i
+μ-loop t levels s at out₀ n scale norm₀ i₀ out norm i = n - i
 
 pub encode-row-spec : {M : Type 1} → statement M
 encode-row-spec =
@@ -35,7 +36,7 @@ encode-row-spec =
       search needs,
       search needs,
       search needs,
-      stored-start (patternsAt (length (a .out .now) - 16) (a .s .now) (a .at)) refl (c .before .before .before .before .pre .1 .1) (rw (c .before .largest-bits .ensures) at (c .scale-of .ensures)),
+      stored-start (c .before .before .before .before .pre .0 .1) (patternsAt (length (a .out .now) - 16) (a .s .now) (a .at)) refl (c .before .before .before .before .pre .1 .1) (rw (c .before .largest-bits .ensures) at (c .scale-of .ensures)),
     ))
     (λ c. search needs)
     (λ c. search needs)

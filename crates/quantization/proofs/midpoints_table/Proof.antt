@@ -1,11 +1,11 @@
-use Rattle.quantization.specs.Encoder.{midpoints}
+use Rattle.quantization.specs.Encoder.{midpointsOf}
 use lib.Ieee.{ofBits}
 use mathlib.Core.Path.{refl}
 use Rattle.quantization.proofs.midpoints_table.Statement.{statement}
 use Rattle.quantization.proofs.midpoints_table.Tie as tie
 
 returns : tie.Need-returns
-unfolding midpoints ofBits
+unfolding midpointsOf ofBits
 returns c = refl
 
 pub midpoints-table-spec : {M : Type 1} → statement M

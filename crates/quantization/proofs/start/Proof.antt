@@ -1,4 +1,4 @@
-use Rattle.quantization.proofs.Starts.{started}
+use Rattle.quantization.proofs.Walks.{started}
 use lib.Ieee.{ofBits}
 use borrow.Author.Needs.{needs}
 use Rattle.quantization.proofs.start.Statement.{statement}
@@ -7,16 +7,16 @@ use Rattle.quantization.proofs.start.Tie as tie
 float-to-bits-result : tie.Need-float-to-bits-result
 unfolding ofBits
 float-to-bits-result c =
-    rw (c .held .ensures) (started (c .before .args .x) (c .before .pre .0) (c .before .pre .1) .number)
+    rw (c .held .ensures) (started (c .before .before .pre .0) (c .before .before .args .x) (c .before .before .pre .1 .0) (c .before .before .pre .1 .1) .number)
 
 sub-result : tie.Need-sub-result
 unfolding ofBits
-sub-result c = rw (c .held .ensures) (started (c .before .args .x) (c .before .pre .0) (c .before .pre .1) .least)
+sub-result c = rw (c .held .ensures) (started (c .before .before .pre .0) (c .before .before .args .x) (c .before .before .pre .1 .0) (c .before .before .pre .1 .1) .least)
 
 returns : tie.Need-returns
 unfolding ofBits
-returns c = rw (c .held .ensures) (started (c .before .args .x) (c .before .pre .0) (c .before .pre .1) .start)
+returns c = rw (c .held .ensures) (started (c .before .before .pre .0) (c .before .before .args .x) (c .before .before .pre .1 .0) (c .before .before .pre .1 .1) .start)
 
 pub start-spec : {M : Type 1} → statement M
 start-spec = tie.close (tie.spec
-    (λ c κs. search needs) float-to-bits-result sub-result returns)
+    (λ c. search needs) (λ c. search needs) (λ c κs. search needs) float-to-bits-result sub-result returns)
