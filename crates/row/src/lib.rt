@@ -1,18 +1,30 @@
 // One row against a query: the row test of quantized_cache.rs (`validate_row`) and quantization.rs's `approximate_distance`.
 ghost use mathlib.Core.Path.{_≡_};
+ghost use mathlib.Core.Bool.{true, false};
 ghost use Prim.Native.Nat.{_+_, _≤_};
 ghost use lib.IntN.{natAbs};
 ghost use lib.ListN.{length};
-ghost use lib.Ieee.{binary64, ofInt};
+ghost use lib.Ieee.{nan, binary64, ofInt, ofBits};
+ghost use mir.Syntax.{w64};
+ghost use mir.Val.{toZ};
+ghost use Rattle.le.specs.Le.{leAt};
 ghost use Rattle.float.specs.SquareRoot.{sqrtOf};
 ghost use Rattle.row.specs.Distance.{squaredL2, innerProduct, cosineBy, distanceOf};
+ghost use Rattle.row.specs.Read.{readOf, sumsTest};
 ghost use Rattle.row.specs.Answer.{measured as measuredOf, answer, viewOf, rowAnswer};
-ghost use Rattle.codes.specs.Codes.{part};
-ghost use Rattle.codes.specs.Sums.{Small};
-ghost use Rattle.quantization.specs.View.{rowAt, rowTest};
+ghost use Rattle.config.specs.Refusal.{refused as refusedAt};
+ghost use Rattle.codes.specs.Codes.{part, Small};
+ghost use Rattle.quantization.specs.View.{rowAt, rowTest, validRow};
+ghost use Rattle.quantization.specs.Encoder.{Levels};
 use config::Metric;
 use config::Refusal;
 use quantization::Row;
+
+// A row of a cache, where its scale is finite and above 0.
+enum ReadRow {
+    Scaled(Row),
+    Unscaled,
+}
 
 pub enum RowAnswer {
     Distance(f64),
@@ -57,79 +69,97 @@ fn cosine_of(n: i64, root: f64, d: i64) -> f64
     float::hold(1.0 - whole(d) / (float::sqrt(whole(n)) * root))
 }
 
-pub fn approximate_distance(metric: Metric, row: Row, query: Row, root: f64, dot: i64) -> f64
-    requires { ⌜ (natAbs (row .norm) ≤ 9007199254740992) × (natAbs (query .norm) ≤ 9007199254740992) × (natAbs dot ≤ 9007199254740992) × (root ≡ sqrtOf (ofInt binary64 (query .norm))) ⌝ }
+pub fn approximate_distance(metric: Metric, row: Row, query: Row, root: f64, dot: i32) -> f64
+    requires { ⌜ (natAbs (row .norm) ≤ 9007199254740992) × (natAbs (query .norm) ≤ 9007199254740992) × (root ≡ sqrtOf (ofInt binary64 (query .norm))) ⌝ }
     ensures { λ r. ⌜ r ≡ distanceOf metric (row .scale) (row .norm) (query .scale) (query .norm) dot ⌝ }
 {
     let n = row.norm;
+    let d = dot as i64;
     match metric {
-        Metric::SquaredL2 => squared_l2(row.scale, n, query.scale, query.norm, dot),
-        Metric::Cosine => cosine_of(n, root, dot),
-        Metric::InnerProduct => inner_product(row.scale, query.scale, dot),
+        Metric::SquaredL2 => squared_l2(row.scale, n, query.scale, query.norm, d),
+        Metric::Cosine => cosine_of(n, root, d),
+        Metric::InnerProduct => inner_product(row.scale, query.scale, d),
     }
 }
 
-// The row test, from what was summed of the codes.
-pub fn valid(metric: Metric, scale: f64, norm: i64, squares: u32, whole: bool) -> bool
-    ensures { λ r. ⌜ r ≡ rowTest metric scale norm squares whole ⌝ }
+// The row test but for the scale: codes within the levels, and a norm that is their sum of squares and not 0 under cosine.
+fn sums_hold(metric: Metric, row: Row, squares: u32, whole: bool) -> bool
+    ensures { λ r. ⌜ r ≡ sumsTest metric (row .norm) squares whole ⌝ }
 {
-    let top: f64 = 1.0 / 0.0;
-    (0.0 < scale)
-        & (scale < top)
-        & whole
-        & (norm == squares as i64)
-        & !(metric.is_cosine() & (norm == 0))
+    let norm = row.norm;
+    whole & (norm == squares as i64) & !(metric.is_cosine() & (norm == 0))
+}
+
+// The row test, from what was summed of the codes.
+pub fn valid(levels: u32, metric: Metric, row: Row, squares: u32, whole: bool) -> bool
+    ensures { λ r. ⌜ r ≡ rowTest levels metric (row .scale) (row .norm) squares whole ⌝ }
+{
+    let scale = row.scale;
+    float::is_finite(scale) & (0.0 < scale) & sums_hold(metric, row, squares, whole)
+}
+
+// Scale and norm at a place of a cache. The scale is tested by its bits, which is quicker, and only then read as a number.
+fn read_row(cache: &[u8], at: usize) -> ReadRow
+    requires { ⌜ at + 16 ≤ length (now cache) ⌝ }
+    ensures { λ r. ⌜ r ≡ readOf (ofBits binary64 (leAt 8 (now (cache .entry)) at)) (toZ w64 (leAt 8 (now (cache .entry)) (at + 8))) ⌝ }
+{
+    let bits = le::u64_at(cache, at);
+    if (0 < bits) & (bits < 9218868437227405312) {
+        return ReadRow::Scaled(Row {
+            scale: float::f64_value(bits),
+            norm: le::i64_at(cache, at + 8),
+        });
+    }
+    ReadRow::Unscaled
+}
+
+// The row test, of the row of n codes at a place of a cache.
+pub fn holds(levels: u32, metric: Metric, cache: &[u8], at: usize, n: usize) -> bool
+    requires { ⌜ (at + 16 + n ≤ length (now cache)) × (n ≤ 4096) × Levels levels ⌝ }
+    ensures { λ r. ⌜ r ≡ validRow levels metric (rowAt n (now (cache .entry)) at) ⌝ }
+{
+    match read_row(cache, at) {
+        ReadRow::Scaled(row) => {
+            let t = codes::row_check(levels as u8, cache, at + 16, n);
+            sums_hold(metric, row, t.squares, t.whole)
+        }
+        ReadRow::Unscaled => false,
+    }
+}
+
+// ---- What a row yields.
+fn refused(number: u32, place: u64) -> RowAnswer
+    ensures { λ r. ⌜ r ≡ RowAnswer.Refused (refusedAt number place) ⌝ }
+{
+    RowAnswer::Refused(Refusal {
+        number: number,
+        place: place,
+    })
 }
 
 fn measured(x: f64, place: u64) -> RowAnswer
     ensures { λ r. ⌜ r ≡ measuredOf place x ⌝ }
 {
-    let top: f64 = 1.0 / 0.0;
-    if x < top {
-        if -top < x {
-            return RowAnswer::Distance(x);
-        }
+    if float::is_finite(x) {
+        return RowAnswer::Distance(x);
     }
-    RowAnswer::Refused(Refusal {
-        number: 22,
-        place: place,
-    })
+    refused(22, place)
 }
 
-// What a row yields, from what was summed of its codes: the row test, then the distance of an eligible row.
-pub fn row_answer(
-    metric: Metric,
-    row: Row,
-    squares: u32,
-    whole: bool,
-    dot: i32,
-    query: Row,
-    root: f64,
-    eligible: bool,
-    place: u64,
-) -> RowAnswer
-    requires { ⌜ (natAbs (query .norm) ≤ 9007199254740992) × (root ≡ sqrtOf (ofInt binary64 (query .norm))) ⌝ }
-    ensures { λ r. ⌜ r ≡ answer (rowTest metric (row .scale) (row .norm) squares whole) eligible place (distanceOf metric (row .scale) (row .norm) (query .scale) (query .norm) dot) ⌝ }
+// A row that is not eligible: its distance is not looked at.
+fn passed_over(valid: bool, place: u64) -> RowAnswer
+    ensures { λ r. ⌜ r ≡ answer valid false place nan ⌝ }
 {
-    let scale = row.scale;
-    let norm = row.norm;
-    if valid(metric, scale, norm, squares, whole) {
-        if eligible {
-            return measured(
-                approximate_distance(metric, row, query, root, dot as i64),
-                place,
-            );
-        }
+    if valid {
         return RowAnswer::PassedOver;
     }
-    RowAnswer::Refused(Refusal {
-        number: 21,
-        place: place,
-    })
+    refused(21, place)
 }
 
-// A row of a cache: scale, norm and codes from at on. Of a row that is not eligible the dot product is not wanted.
+// A row of a cache: scale, norm and codes from at on. It does not call `holds`, since a call that is lent the cache costs each row a
+// nanosecond more.
 pub fn cached_row(
+    levels: u32,
     metric: Metric,
     cache: &[u8],
     at: usize,
@@ -139,45 +169,28 @@ pub fn cached_row(
     eligible: bool,
     place: u64,
 ) -> RowAnswer
-    requires { ⌜ (at + 16 + length (now q) ≤ length (now cache)) × (length (now q) ≤ 4096) ⌝ }
+    requires { ⌜ (at + 16 + length (now q) ≤ length (now cache)) × (length (now q) ≤ 4096) × Levels levels ⌝ }
     requires { ⌜ (natAbs (query .norm) ≤ 9007199254740992) × (root ≡ sqrtOf (ofInt binary64 (query .norm))) × Small (now q) ⌝ }
-    ensures { λ r. ⌜ r ≡ rowAnswer 127 metric eligible place (rowAt (length (now (q .entry))) (now (cache .entry)) at) (viewOf (query .scale) (query .norm) (now (q .entry))) ⌝ }
+    ensures { λ r. ⌜ r ≡ rowAnswer levels metric eligible place (rowAt (length (now (q .entry))) (now (cache .entry)) at) (viewOf (query .scale) (query .norm) (now (q .entry))) ⌝ }
 {
-    let row = Row {
-        scale: float::f64_value(le::u64_at(cache, at)),
-        norm: le::i64_at(cache, at + 8),
-    };
     let codes = at + 16;
-    if eligible {
-        let t = codes::row_sums(cache, codes, q);
-        return row_answer(
-            metric,
-            row,
-            t.squares,
-            t.whole,
-            t.dot,
-            query,
-            root,
-            true,
-            place,
-        );
+    if let ReadRow::Scaled(row) = read_row(cache, at) {
+        if eligible {
+            let t = codes::row_sums(levels as u8, cache, codes, q);
+            if sums_hold(metric, row, t.squares, t.whole) {
+                return measured(approximate_distance(metric, row, query, root, t.dot), place);
+            }
+            return refused(21, place);
+        }
+        let t = codes::row_check(levels as u8, cache, codes, q.len());
+        return passed_over(sums_hold(metric, row, t.squares, t.whole), place);
     }
-    let t = codes::row_check(cache, codes, q.len());
-    row_answer(
-        metric,
-        row,
-        t.squares,
-        t.whole,
-        0,
-        query,
-        root,
-        false,
-        place,
-    )
+    refused(21, place)
 }
 
 // A resident row: its codes from at on, and its scale and norm.
 pub fn resident_row(
+    levels: u32,
     metric: Metric,
     codes: &[i8],
     at: usize,
@@ -188,34 +201,17 @@ pub fn resident_row(
     eligible: bool,
     place: u64,
 ) -> RowAnswer
-    requires { ⌜ (at + length (now q) ≤ length (now codes)) × (length (now q) ≤ 4096) ⌝ }
+    requires { ⌜ (at + length (now q) ≤ length (now codes)) × (length (now q) ≤ 4096) × Levels levels ⌝ }
     requires { ⌜ (natAbs (query .norm) ≤ 9007199254740992) × (root ≡ sqrtOf (ofInt binary64 (query .norm))) × Small (now q) ⌝ }
-    ensures { λ r. ⌜ r ≡ rowAnswer 127 metric eligible place (viewOf (row .scale) (row .norm) (part (length (now (q .entry))) (now (codes .entry)) at)) (viewOf (query .scale) (query .norm) (now (q .entry))) ⌝ }
+    ensures { λ r. ⌜ r ≡ rowAnswer levels metric eligible place (viewOf (row .scale) (row .norm) (part (length (now (q .entry))) (now (codes .entry)) at)) (viewOf (query .scale) (query .norm) (now (q .entry))) ⌝ }
 {
     if eligible {
-        let t = codes::row_sums_resident(codes, at, q);
-        return row_answer(
-            metric,
-            row,
-            t.squares,
-            t.whole,
-            t.dot,
-            query,
-            root,
-            true,
-            place,
-        );
+        let t = codes::row_sums_resident(levels as u8, codes, at, q);
+        if valid(levels, metric, row, t.squares, t.whole) {
+            return measured(approximate_distance(metric, row, query, root, t.dot), place);
+        }
+        return refused(21, place);
     }
-    let t = codes::row_check_resident(codes, at, q.len());
-    row_answer(
-        metric,
-        row,
-        t.squares,
-        t.whole,
-        0,
-        query,
-        root,
-        false,
-        place,
-    )
+    let t = codes::row_check_resident(levels as u8, codes, at, q.len());
+    passed_over(valid(levels, metric, row, t.squares, t.whole), place)
 }
