@@ -6,7 +6,7 @@ use mathlib.Core.Logic.{_⊎_, inl, inr, ⊎-elim}
 use Prim.Native.Nat.{ℕ, zero, suc, _+_, _≤_, _<_}
 use native.Mathlib.Omega.{arith}
 use lib.Dec.{ltb}
-use borrow.Author.Tests.{ltb-true, leb-true, eqb-true}
+use borrow.Author.Tests.{ltb-true, leb-true, eqb-true, eq-eqb}
 use Rattle.le.proofs.Chain.{lt-or-le}
 use Rattle.config.specs.Limits.{maxMetadata, maxSegmentBytes}
 use Rattle.format.specs.Order.{within}
@@ -19,6 +19,10 @@ use Rattle.format.proofs.Heads.{both, in-range}
 pub lengths-of : (m : List ℕ) → rowsOk m ≡ true → lengthsOk m ≡ true
 unfolding rowsOk
 lengths-of m ok = both ok .0
+
+pub rows-by : (m : List ℕ) → lengthsOk m ≡ true → badEntry m ≡ rowsOf m → rowsOk m ≡ true
+unfolding rowsOk
+rows-by m h e = rw (h, eq-eqb (badEntry m) (rowsOf m) e)
 
 pub length-bounds : (m : List ℕ) (n : ℕ) → lengthsOk m ≡ true → n < segmentsOf m → (4 ≤ lengthOf m n) × (lengthOf m n ≤ 67108864)
 unfolding lengthsOk

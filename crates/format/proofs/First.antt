@@ -6,11 +6,15 @@ use native.Mathlib.Omega.{arith}
 use lib.Dec.{eqb}
 use borrow.Author.Tests.{eqb-true, eqb-false}
 use Rattle.le.proofs.Chain.{by}
-use Rattle.format.specs.Order.{firstFrom, firstBad}
+use Rattle.format.specs.Order.{firstFrom, firstBad, nextBad}
 
--- a loop has come to i, and all before it passed
-pub record Reached (ok : ℕ → Bool) (n i : ℕ) : Type 0 where
-  pub so : firstFrom ok (n - i) i ≡ firstBad ok n
+-- a loop has come to i, and what it seeks is the first from there on
+pub record Seeks (ok : ℕ → Bool) (n i first : ℕ) : Type 0 where
+  pub so : nextBad ok n i ≡ first
+
+-- of all below n, and all before i passed
+abbrev pub Reached : (ℕ → Bool) → ℕ → ℕ → Type 0
+Reached ok n i = Seeks ok n i (firstBad ok n)
 
 module _ (ok : ℕ → Bool) where
   step : (k i : ℕ) → firstFrom ok (suc k) i ≡ cond (ok i) (firstFrom ok k (i + 1)) i
@@ -21,7 +25,7 @@ module _ (ok : ℕ → Bool) where
   unfolding firstFrom
   none i = refl
 
-  at-i : (n i : ℕ) → i < n → firstFrom ok (n - i) i ≡ cond (ok i) (firstFrom ok (n - (i + 1)) (i + 1)) i
+  at-i : (n i : ℕ) → i < n → nextBad ok n i ≡ cond (ok i) (nextBad ok n (i + 1)) i
   at-i n i h = let e : n - i ≡ suc (n - (i + 1)) = omega arith in rw e (step (n - (i + 1)) i)
 
   high : (k i : ℕ) → firstFrom ok k i ≤ i + k
@@ -61,15 +65,18 @@ module _ (ok : ℕ → Bool) where
   pub all-pass : (n : ℕ) → ((i : ℕ) → i < n → ok i ≡ true) → firstBad ok n ≡ n
   all-pass n h = to-pass n 0 (λ j l. h j (omega arith)) ∙ omega arith
 
-module _ {ok : ℕ → Bool} {n i : ℕ} where
-  pub reached-turn : i < n → ok i ≡ true → Reached ok n i → Reached ok n (i + 1)
+module _ {ok : ℕ → Bool} {n i first : ℕ} where
+  pub reached-turn : i < n → ok i ≡ true → Seeks ok n i first → Seeks ok n (i + 1) first
   reached-turn h p r = record { so = sym (rw p at (at-i ok n i h)) ∙ r .so }
 
-  pub reached-stop : i < n → ok i ≡ false → Reached ok n i → i ≡ firstBad ok n
+  pub reached-stop : i < n → ok i ≡ false → Seeks ok n i first → i ≡ first
   reached-stop h p r = sym (rw p at (at-i ok n i h)) ∙ r .so
 
-  pub reached-end : n ≤ i → Reached ok n i → i ≡ firstBad ok n
+  pub reached-end : n ≤ i → Seeks ok n i first → i ≡ first
   reached-end h r = let e : n - i ≡ 0 = omega arith in sym (none ok i) ∙ (rw e at (r .so))
 
+pub next-first : (ok : ℕ → Bool) (n : ℕ) → nextBad ok n 0 ≡ firstBad ok n
+next-first ok n = let e : n - 0 ≡ n = omega arith in rw e refl
+
 pub reached-start : (ok : ℕ → Bool) (n : ℕ) → Reached ok n 0
-reached-start ok n = let e : n - 0 ≡ n = omega arith in record { so = rw e refl }
+reached-start ok n = record { so = next-first ok n }

@@ -10,6 +10,7 @@ use lib.ListN.{length}
 use Rattle.le.proofs.Chain.{held}
 use Rattle.config.proofs.Refusals.{not-zero}
 use Rattle.config.specs.Limits.{maxManifestBytes, maxSegments, maxRecords}
+use Rattle.config.specs.Metric.{metricOf, isMetric}
 use Rattle.config.specs.Space.{validConfig}
 use Rattle.format.specs.Order.{within}
 use Rattle.format.specs.Fields.{metricByte, modelLength, dimensionsOf, mOf, efOf, segmentsOf, rowsOf, entriesAt}
@@ -47,7 +48,7 @@ length-in m h = in-range 66 maxManifestBytes (length m) (both h .0)
 
 pub model-in : (m : List ℕ) → kindOk m ≡ true → (1 ≤ modelLength m) × (modelLength m ≤ 512)
 unfolding kindOk
-model-in m h = in-range 1 512 (modelLength m) (both {a = leb (metricByte m) 2} h .1)
+model-in m h = in-range 1 512 (modelLength m) (both {a = isMetric (metricOf (metricByte m))} h .1)
 
 -- the numbers of a head that passes
 pub record Bounds (m : List ℕ) : Type 0 where

@@ -1,5 +1,6 @@
 -- Laws of the manifest's definitions.
 pub mod First
+pub mod Refusals
 pub mod Heads
 pub mod Entries
 pub mod Same

@@ -7,7 +7,7 @@ use mathlib.Core.List.{List, [], _∷_}
 use Prim.Native.Nat.{ℕ, zero, suc, _+_, _-_, _≤_, _<_}
 use native.Mathlib.Numerals.{add-one}
 use native.Mathlib.Omega.{arith}
-use lib.Dec.{eqb, leb}
+use lib.Dec.{eqb}
 use borrow.Author.Tests.{eq-eqb, eqb-true, leb-true, le-leb}
 use lib.ListN.{length, getD, take, drop, replicate, length-drop, drop-of-length-le, take-append-drop}
 use lib.Seq.{drop-cons, take-add, take-suc, take-at, length-take-le, getD-take}
@@ -15,13 +15,14 @@ use Rattle.le.specs.Le.{le, leAt, bytes}
 use Rattle.le.proofs.LeLaws.{AllBytes, bytes-le, take-bytes, drop-bytes}
 use Rattle.le.proofs.Pastes.{part-before}
 use Rattle.config.specs.Limits.{maxManifestBytes, maxSegmentBytes}
-use Rattle.config.specs.Metric.{metricOf, byteOf}
+use Rattle.config.specs.Metric.{metricOf, isMetric, byteOf}
+use Rattle.config.proofs.Metrics.{metric-bytes}
 use Rattle.config.specs.declared.Config.{Config}
 use Rattle.config.specs.declared.Metric.{Metric}
 use Rattle.config.specs.declared.Metric.the-variants.{SquaredL2, Cosine, InnerProduct}
 use Rattle.format.specs.Order.{within}
 use Rattle.format.specs.Fields.{magic, generationOf, sequenceOf, dimensionsOf, mOf, efOf, seedOf, metricByte, metricIn, metricAt, modelLength, modelOf, segmentsOf, rowsOf, tableAt, lengthOf}
-use Rattle.format.specs.Head.{opensOk, kindOk, identityOk, countsOk, headNumber, lengthsOk, headAt}
+use Rattle.format.specs.Head.{opensOk, kindOk, identityOk, countsOk, headNumber, lengthsOk, headAt, zeroHead}
 use Rattle.format.specs.Same.{sameBytes, sameConfig, sameFields, sameHead}
 use Rattle.format.specs.declared.Head.{Head}
 use Rattle.format.proofs.First.{each-passes, all-pass}
@@ -59,12 +60,12 @@ metric-back SquaredL2 = refl
 metric-back Cosine = refl
 metric-back InnerProduct = refl
 
-byte-back : (b : ℕ) → b ≤ 2 → byteOf (metricIn (metricOf b)) ≡ b
+byte-back : (b : ℕ) → isMetric (metricOf b) ≡ true → byteOf (metricIn (metricOf b)) ≡ b
 unfolding metricOf
 byte-back zero h = refl
 byte-back (suc zero) h = refl
 byte-back (suc (suc zero)) h = refl
-byte-back (suc (suc (suc b))) h = absurd (omega arith)
+byte-back (suc (suc (suc b))) h = absurd (omega (arith, leb-true (suc (suc (suc b))) 2 (sym (metric-bytes (suc (suc (suc b)))) ∙ h)))
 
 config-eq : (a b : Config) → sameConfig a b ≡ true → a ≡ b
 unfolding sameConfig
@@ -196,7 +197,7 @@ magic-in m e = eqb-true (leAt 8 m 0) (le magic) (both {a = within 66 maxManifest
 
 byte-in : (m : List ℕ) → headNumber m ≡ 0 → byteOf (metricAt m) ≡ metricByte m
 unfolding kindOk metricAt
-byte-in m e = byte-back (metricByte m) (leb-true (metricByte m) 2 (both {a = leb (metricByte m) 2} (headed m e .kind) .0))
+byte-in m e = byte-back (metricByte m) (both (headed m e .kind) .0)
 
 -- a number tells its bytes
 pub bytes-in : (n p : ℕ) (s : List ℕ) → AllBytes s → p + n ≤ length s → bytes n (leAt n s p) ≡ take n (drop p s)
@@ -252,14 +253,28 @@ module _ (m m₀ : List ℕ) (b : AllBytes m) (b₀ : AllBytes m₀) (e : headNu
       let segments = field (49 + n) 4 (53 + n) (omega arith) (omega arith) (rw model-is at (ap (λ (h : Head). h .segments) f)) name in
       field (53 + n) 8 (61 + n) (omega arith) (omega arith) (rw model-is at (ap (λ (h : Head). h .rows) f)) segments
 
--- Readings R3: against the head of an accepted manifest m₀ the head test of m is exactly document 01's sentence on 21
-pub same-head-law : (m m₀ : List ℕ) → AllBytes m → AllBytes m₀ → headNumber m₀ ≡ 0 → (sameHead m (headAt m₀) ≡ true) ↔ Unchanged m m₀
+-- what the head test says of the lent manifest, whatever head was handed in
+pub same-parts : (m : List ℕ) (h : Head) → sameHead m h ≡ true → (headNumber m ≡ 0) × (headAt m ≡ h) × (lengthsOk m ≡ true)
 unfolding sameHead
-same-head-law m m₀ b b₀ e₀ = (
-  λ h. let p = both {a = eqb (headNumber m) 0} h in
-      let q = both {a = sameFields (headAt m) (headAt m₀)} (p .1) in
-      let e = eqb-true (headNumber m) 0 (p .0) in
-      let f = fields-eq (headAt m) (headAt m₀) (q .0) in
-      record { long = long m m₀ b b₀ e e₀ f; before = prefix m m₀ b b₀ e e₀ f; lengths = lengths-in m (q .1) },
-  unchanged-same m m₀ e₀,
+same-parts m h e =
+    let p = both {a = eqb (headNumber m) 0} e in
+    let q = both {a = sameFields (headAt m) h} (p .1) in
+    (eqb-true (headNumber m) 0 (p .0), fields-eq (headAt m) h (q .0), q .1)
+
+-- the head of a refusal is no manifest's
+pub same-none : (m : List ℕ) → sameHead m zeroHead ≡ true → ⊥
+unfolding headAt zeroHead
+same-none m e =
+    let p = same-parts m zeroHead e in
+    let l : length m ≡ 0 = ap (λ (h : Head). h .length) (p .1) in
+    let b = bounds m (p .0) .long in
+    omega (arith, l, b)
+
+-- Readings R3: against the head of an accepted manifest m₀ the head test of m is exactly document 01's sentence on 21
+pub same-head-law : (m m₀ : List ℕ) (h : Head) → AllBytes m → AllBytes m₀ → headNumber m₀ ≡ 0 → h ≡ headAt m₀ → (sameHead m h ≡ true) ↔ Unchanged m m₀
+same-head-law m m₀ h b b₀ e₀ f = (
+  λ e. let p = same-parts m h e in
+      let g = p .1 ∙ f in
+      record { long = long m m₀ b b₀ (p .0) e₀ g; before = prefix m m₀ b b₀ (p .0) e₀ g; lengths = lengths-in m (p .2) },
+  λ u. rw f (unchanged-same m m₀ e₀ u),
 )

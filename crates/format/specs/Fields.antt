@@ -37,7 +37,7 @@ seedOf m = leAt 8 m 36
 unfoldable pub metricByte : List ℕ → ℕ
 metricByte m = getD m 44 0
 
--- the metric of a byte; a byte over 2 is refused by `kindOk`, and SquaredL2 only makes the function total
+-- the metric of a byte; a byte that names none is refused by `kindOk`, and SquaredL2 only makes the function total
 abbrev pub metricIn : MetricAnswer → Metric
 metricIn (Known metric) = metric
 metricIn (Refused r) = SquaredL2

@@ -8,6 +8,7 @@ use lib.Dec.{leb, eqb}
 use lib.ListN.{length, replicate}
 use Rattle.le.specs.Le.{le, leAt}
 use Rattle.config.specs.Limits.{maxManifestBytes, maxSegments, maxRecords, maxSegmentBytes}
+use Rattle.config.specs.Metric.{metricOf, isMetric}
 use Rattle.config.specs.Space.{validConfig, validSpace}
 use Rattle.config.specs.declared.Metric.the-variants.{SquaredL2}
 use Rattle.config.specs.declared.Config.{Config}
@@ -21,7 +22,7 @@ opensOk m = within 66 maxManifestBytes (length m) && eqb (leAt 8 m 0) (le magic)
 
 -- 2: the metric byte and the model's length, whether or not the model is cut short
 unfoldable pub kindOk : List ℕ → Bool
-kindOk m = leb (metricByte m) 2 && within 1 512 (modelLength m)
+kindOk m = isMetric (metricOf (metricByte m)) && within 1 512 (modelLength m)
 
 -- 2: dimensions, m, ef, the model's UTF-8 and NUL
 unfoldable pub identityOk : List ℕ → Bool

@@ -14,6 +14,7 @@ pub record Placed (m : List ℕ) (l : Layout) : Type 0 where
   pub table : l .table ≡ tableAt m
   pub entries : l .entries ≡ entriesAt m
   pub end : entriesAt m + 20 * rowsOf m + 4 ≡ length m
+  pub long : 66 ≤ length m
   pub short : length m ≤ 67108864
   pub low : 1 ≤ dimensionsOf m
   pub high : dimensionsOf m ≤ 4096

@@ -1,7 +1,9 @@
 -- Tests in the order of document 01's tables ("Manifest checks run in the order `read_manifest` reads", "5 for the lowest bad row").
 use mathlib.Core.Bool.{Bool, cond, _&&_}
-use Prim.Native.Nat.{ℕ, zero, suc, _+_}
+use Prim.Native.Nat.{ℕ, zero, suc, _+_, _-_}
 use lib.Dec.{leb, eqb}
+use Rattle.config.specs.Refusal.{none}
+use Rattle.config.specs.declared.Refusal.{Refusal}
 
 -- a test and the number of its refusal, before the rest of the table; 0 is no refusal
 abbrev pub unless : Bool → ℕ → ℕ → ℕ
@@ -22,3 +24,11 @@ firstFrom ok (suc k) i = cond (ok i) (firstFrom ok k (i + 1)) i
 -- the first below n, or n
 abbrev pub firstBad : (ℕ → Bool) → ℕ → ℕ
 firstBad ok n = firstFrom ok n 0
+
+-- the first from i on below n, or n
+abbrev pub nextBad : (ℕ → Bool) → ℕ → ℕ → ℕ
+nextBad ok n i = firstFrom ok (n - i) i
+
+-- the first of n that is refused, and none where none is
+unfoldable pub firstRefusal : (ℕ → Refusal) → ℕ → Refusal
+firstRefusal f n = let bad = firstBad (λ i. eqb (f i .number) 0) n in cond (eqb bad n) none (f bad)

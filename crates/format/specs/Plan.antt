@@ -6,7 +6,7 @@ use Prim.Native.Nat.{ℕ, zero, suc, _+_}
 use lib.Dec.{ltb, leb, eqb}
 use Rattle.crc32.specs.Crc.{endsInCrc}
 use Rattle.config.specs.Limits.{maxMetadata}
-use Rattle.format.specs.Order.{unless, orElse, firstBad}
+use Rattle.format.specs.Order.{unless, orElse, firstBad, nextBad}
 use Rattle.format.specs.Fields.{segmentsOf, rowsOf, lengthOf, idAt, segmentAt, offsetAt, metadataAt, recordLength, storedCrc}
 use Rattle.format.specs.Head.{headNumber, lengthsOk}
 
@@ -21,9 +21,16 @@ entryOk m r =
     ltb (segmentAt m r) (segmentsOf m) && rises m r && leb (metadataAt m r) maxMetadata
     && leb (offsetAt m r + recordLength m r + 4) (lengthOf m (segmentAt m r))
 
--- the first row whose entry breaks a rule, or the row count
+-- the first row whose entry breaks a rule, or the row count; and the first from a given row on
 abbrev pub badEntry : List ℕ → ℕ
 badEntry m = firstBad (entryOk m) (rowsOf m)
+
+abbrev pub badEntryFrom : List ℕ → ℕ → ℕ
+badEntryFrom m first = nextBad (entryOk m) (rowsOf m) first
+
+-- the first row from a given one on whose id is not below this one, or the row count: where ids that rise are looked up
+abbrev pub rowFrom : List ℕ → ℕ → ℕ → ℕ
+rowFrom m first id = nextBad (λ r. ltb (idAt m r) id) (rowsOf m) first
 
 -- document 01, table, 1: "segment or row rule"
 unfoldable pub rowsOk : List ℕ → Bool

@@ -9,7 +9,7 @@ ghost use Rattle.le.specs.Le.{leAt};
 ghost use Rattle.format.specs.Order.{within as inside};
 ghost use Rattle.format.specs.Fields.{modelLength, metricAt, lengthOf, crcOf};
 ghost use Rattle.format.specs.Head.{opensOk, kindOk, identityOk, countsOk, headNumber, badLength, lengthsOk, configAt, headAt, zeroHead};
-ghost use Rattle.format.specs.Plan.{rises as rising, entryOk, badEntry, rowsOk, crcOk, planNumber};
+ghost use Rattle.format.specs.Plan.{rises as rising, entryOk, badEntry, badEntryFrom, rowFrom, rowsOk, crcOk, planNumber};
 ghost use Rattle.format.specs.Layout.{Placed, entryAt};
 ghost use Rattle.format.specs.Same.{sameBytes, sameConfig, sameFields, sameHead};
 use config::Config;
@@ -323,14 +323,38 @@ fn entry_holds(m: &[u8], layout: Layout, row: usize) -> bool
     rises(m, layout, row) & (wide(e.metadata) <= config::MAX_METADATA) & (end as u64 <= length)
 }
 
-// The first row whose entry breaks a rule, or the row count.
+// The first row from a given one on whose entry breaks a rule, or the row count.
+pub fn bad_entry_from(m: &[u8], layout: Layout, first: usize) -> usize
+    requires { ⌜ Placed (now m) layout × (first ≤ layout .rows) ⌝ }
+    ensures { λ r. ⌜ r ≡ badEntryFrom (now (m .entry)) first ⌝ }
+{
+    let mut row = first;
+    while row < layout.rows {
+        if !entry_holds(m, layout, row) {
+            return row;
+        }
+        row += 1;
+    }
+    row
+}
+
+// The first of all.
 pub fn bad_entry(m: &[u8], layout: Layout) -> usize
     requires { ⌜ Placed (now m) layout ⌝ }
     ensures { λ r. ⌜ r ≡ badEntry (now (m .entry)) ⌝ }
 {
-    let mut row = 0;
+    bad_entry_from(m, layout, 0)
+}
+
+// The first row from a given one on whose id is not below this one, or the row count.
+pub fn seek(m: &[u8], layout: Layout, from: usize, id: u64) -> usize
+    requires { ⌜ Placed (now m) layout × (from ≤ layout .rows) ⌝ }
+    ensures { λ r. ⌜ r ≡ rowFrom (now (m .entry)) from id ⌝ }
+{
+    let mut row = from;
     while row < layout.rows {
-        if !entry_holds(m, layout, row) {
+        let e = read_entry(m, layout, row);
+        if id <= e.id {
             return row;
         }
         row += 1;

@@ -3,18 +3,18 @@ use mathlib.Core.Path.{_≡_, refl, sym, _∙_}
 use mathlib.Core.Logic.{⊎-elim}
 use mathlib.Core.Bool.{true}
 use mathlib.Core.List.{List, [], _∷_, _++_, map, map-append}
-use Prim.Native.Nat.{ℕ, zero, suc, _+_, _*_, _≤_, _<_}
+use Prim.Native.Nat.{ℕ, _+_, _*_, _≤_, _<_}
 use native.Mathlib.Omega.{arith}
 use lib.Dec.{leb, eqb}
 use lib.ListN.{length, take, drop, length-append, length-drop, length-map}
-use lib.Seq.{take-at, drop-at}
+use lib.Seq.{take-at}
 use borrow.Author.Tests.{le-leb, lt-leb, eqb-true, eqb-false}
 use Rattle.le.proofs.Chain.{by, lt-or-le}
 use Rattle.rank.specs.Sort.{_∈_, sort}
 use Rattle.rank.specs.Limit.{byKey}
 use Rattle.rank.specs.Rows.{passing}
 use Rattle.rank.proofs.Sort.{sort-map, from-sort, length-sort}
-use Rattle.rank.proofs.Rows.{passing-pass, passing-more}
+use Rattle.rank.proofs.Rows.{passing-pass, passing-more, count-all}
 use Rattle.format.specs.Fields.{rowsOf, segmentAt, offsetAt}
 use Rattle.format.specs.Plan.{rowsOk}
 use Rattle.format.proofs.Entries.{entered}
@@ -36,7 +36,7 @@ leb-alike a b c d f g =
 
 pub key-order : (m : List ℕ) (x y : ℕ) → x < 1048576 → y < 1048576 → offsetAt m x < 67108864 → offsetAt m y < 67108864
     → leb (key m x) (key m y) ≡ byKey (position m) x y
-unfolding key position
+unfolding key position byKey
 key-order m x y hx hy ox oy =
     let p = segmentAt m x * 4294967296 + offsetAt m x in
     let q = segmentAt m y * 4294967296 + offsetAt m y in
@@ -44,10 +44,9 @@ key-order m x y hx hy ox oy =
     (λ e. let h = eqb-true p q e in rw e (leb-alike (key m x) (key m y) x y (λ k. omega (arith, h, k)) (λ k. omega (arith, h, k))))
     (λ e. let h = eqb-false p q e in rw e (leb-alike (key m x) (key m y) p q (λ k. omega (arith, h, k)) (λ k. omega (arith, h, k))))
 
--- all rows below n, and their keys
-pub all-rows : (n : ℕ) → length (passing (λ r. true) n) ≡ n
-all-rows zero = refl
-all-rows (suc n) = let h = all-rows n in simp length-append (omega (arith, h))
+-- the keys of all rows below n
+pub count-keys : (m : List ℕ) (n : ℕ) → length (map (key m) (passing (λ r. true) n)) ≡ n
+count-keys m n = length-map (passing (λ r. true) n) (key m) ∙ count-all (λ r. true) n (λ r l. refl)
 
 pub keys-more : (m : List ℕ) (n : ℕ) → map (key m) (passing (λ r. true) (n + 1)) ≡ map (key m) (passing (λ r. true) n) ++ key m n ∷ []
 keys-more m n = rw (passing-more (λ r. true) n refl) (map-append (key m) (passing (λ r. true) n) (n ∷ []))
@@ -70,13 +69,9 @@ module _ (m : List ℕ) (ok : rowsOk m ≡ true) (few : rowsOf m ≤ 1000000) wh
       (λ x y p q. let hx = passing-pass (λ r. true) (rowsOf m) x p .0 in let hy = passing-pass (λ r. true) (rowsOf m) y q .0 in
       key-order m x y (small hx) (small hy) (near hx) (near hy))
 
--- a part at the front, sorted
-pub sort-front : (n : ℕ) (a t : List ℕ) → length a ≡ n → sort leb (take n (a ++ drop n t)) ++ drop n (a ++ drop n t) ≡ sort leb a ++ drop n t
-sort-front n a t e = rw (take-at a (drop n t) n e, drop-at a (drop n t) n e)
-
 length-physical : (m : List ℕ) → length (physical m) ≡ rowsOf m
 unfolding physical
-length-physical m = length-sort (byKey (position m)) (passing (λ r. true) (rowsOf m)) ∙ all-rows (rowsOf m)
+length-physical m = length-sort (byKey (position m)) (passing (λ r. true) (rowsOf m)) ∙ count-all (λ r. true) (rowsOf m) (λ r l. refl)
 
 length-keys : (m : List ℕ) → length (rowKeys m) ≡ rowsOf m
 length-keys m = length-map (physical m) (key m) ∙ length-physical m

@@ -3,3 +3,4 @@ pub mod Keys
 pub mod Parts
 pub mod Walk
 pub mod Passed
+pub mod Heads

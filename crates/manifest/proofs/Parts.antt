@@ -3,7 +3,7 @@ use mathlib.Core.Path.{_≡_, refl, sym, ap, _∙_}
 use mathlib.Core.Logic.{inl, inr, ⊎-elim}
 use mathlib.Core.Bool.{Bool, true, false, cond, true≢false}
 use mathlib.Core.List.{List, [], _∷_, map}
-use Prim.Native.Nat.{ℕ, zero, suc, _+_, _-_, _*_, _≤_, _<_}
+use Prim.Native.Nat.{ℕ, zero, suc, _+_, _-_, _≤_, _<_}
 use native.Mathlib.Omega.{arith}
 use lib.Dec.{leb, eqb}
 use lib.ListN.{length, take, drop, getD, length-map, List·getD-map, length-drop}
@@ -15,7 +15,7 @@ use Rattle.rank.specs.Limit.{byKey}
 use Rattle.rank.specs.Rows.{passing}
 use Rattle.rank.proofs.Sort.{ascending-sort, to-sort}
 use Rattle.rank.proofs.Rows.{passing-complete}
-use Rattle.rank.proofs.ByKey.{order}
+use Rattle.rank.proofs.ByKey.{order, key-rises}
 use Rattle.rank.proofs.Members.{take-map, mem-getD}
 use Rattle.format.specs.Fields.{rowsOf, segmentAt, offsetAt}
 use Rattle.format.specs.Plan.{rowsOk}
@@ -111,10 +111,7 @@ module _ (m : List ℕ) where
   segment-rises : (x y : ℕ) → offsetAt m x < 67108864 → offsetAt m y < 67108864 → byKey (position m) x y ≡ true → segmentAt m x ≤ segmentAt m y
   unfolding position
   segment-rises x y ox oy h =
-      let p = segmentAt m x * 4294967296 + offsetAt m x in
-      let q = segmentAt m y * 4294967296 + offsetAt m y in
-      let le : p ≤ q =
-      by (eqb p q) (λ e. let f = eqb-true p q e in omega (arith, f)) (λ e. let k : leb p q ≡ true = rw e at h in leb-true p q k) in
+      let le = key-rises (position m) x y h in
       omega (arith, le)
 
   run-within : (n : ℕ) (ks : List ℕ) → run n ks ≤ length ks

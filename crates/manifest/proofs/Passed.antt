@@ -15,7 +15,8 @@ use Rattle.format.specs.Plan.{rowsOk, crcOk, planNumber}
 use Rattle.manifest.specs.Tiling.{tiled}
 use Rattle.manifest.specs.Scratch.{rowKeys}
 use Rattle.manifest.proofs.Keys.{take-ordered, length-ordered}
-use Rattle.manifest.specs.Check.{manifestNumber, zeros, scratchAfter, scratchHeld}
+use Rattle.le.specs.Le.{zeros}
+use Rattle.manifest.specs.Check.{manifestNumber, scratchAfter, scratchHeld}
 
 -- both tables pass
 pub or-else : (a b : ℕ) → orElse a b ≡ 0 → (a ≡ 0) × (b ≡ 0)

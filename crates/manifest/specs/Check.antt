@@ -4,7 +4,8 @@ use mathlib.Core.Bool.{cond}
 use mathlib.Core.List.{List}
 use Prim.Native.Nat.{ℕ}
 use lib.Dec.{eqb}
-use lib.ListN.{length, replicate}
+use lib.ListN.{length}
+use Rattle.le.specs.Le.{zeros}
 use Rattle.config.specs.Refusal.{refused, unlessRefused}
 use Rattle.config.specs.declared.Refusal.{Refusal}
 use Rattle.format.specs.Order.{unless, orElse}
@@ -24,9 +25,6 @@ checkedBy m refusal = record { refusal = refusal; head = unlessRefused refusal (
 
 abbrev pub checked : List ℕ → ℕ → ℕ → Checked
 checked m expected room = checkedBy m (refused (manifestNumber m expected room) 0)
-
-abbrev pub zeros : List ℕ → List ℕ
-zeros t = replicate (length t) 0
 
 -- the scratch t once the tiling is tested (document 01, The report: "tiling scratch: its 11"; readings R13: it stays on 1, 2, 3 and its own
 -- 11, else the whole slice ends zero); until it is cleared it holds the rows of an accepted manifest in order

@@ -11,7 +11,7 @@ ghost use Rattle.format.specs.Plan.{rowsOk};
 ghost use Rattle.format.specs.Layout.{Placed};
 ghost use Rattle.manifest.specs.Tiling.{covers as covered, tiled};
 ghost use Rattle.manifest.specs.Scratch.{key, keyRow, rowKeys, ordered, run as runOf, Below};
-ghost use Rattle.manifest.specs.Check.{manifestNumber, checkedBy, checked, zeros, scratchAfter, scratchHeld};
+ghost use Rattle.manifest.specs.Check.{manifestNumber, checkedBy, checked, scratchAfter, scratchHeld};
 use config::Refusal;
 use format::Head;
 use format::Layout;
@@ -122,16 +122,6 @@ fn tiles(m: &[u8], layout: Layout, keys: &[u64]) -> bool
 
 // ---- The check.
 
-pub fn clear(scratch: &mut [u64])
-    ensures { λ r. ⌜ now (scratch .exit) ≡ zeros (now (scratch .entry)) ⌝ }
-{
-    let mut i = 0;
-    while i < scratch.len() {
-        scratch[i] = 0;
-        i += 1;
-    }
-}
-
 // The number of the first test that fails, or 0, and then the scratch holds the rows in order.
 pub fn accept(m: &[u8], expected: u32, scratch: &mut [u64]) -> u32
     ensures { λ r. ⌜ (r ≡ manifestNumber (now (m .entry)) expected (length (now (scratch .entry)))) × (now (scratch .exit) ≡ scratchHeld (now (m .entry)) expected (now (scratch .entry))) ⌝ }
@@ -146,7 +136,7 @@ pub fn accept(m: &[u8], expected: u32, scratch: &mut [u64]) -> u32
     if tiles(m, layout, &scratch[..rows]) {
         return 0;
     }
-    clear(scratch);
+    le::clear(scratch);
     4
 }
 
@@ -176,7 +166,7 @@ pub fn check(manifest: &[u8], expected_crc: u32, scratch: &mut [u64]) -> Checked
         place: 0,
     };
     if number == 0 {
-        clear(scratch);
+        le::clear(scratch);
         return answer(manifest, refusal);
     }
     answer(manifest, refusal)

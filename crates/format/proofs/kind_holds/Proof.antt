@@ -1,4 +1,5 @@
 use borrow.Author.Needs.{needs}
+use Rattle.config.proofs.Metrics.{metric-bytes}
 use Rattle.format.specs.Fields.{metricByte, modelLength}
 use Rattle.format.specs.Head.{kindOk}
 use Rattle.format.proofs.kind_holds.Statement.{statement}
@@ -6,7 +7,7 @@ use Rattle.format.proofs.kind_holds.Tie as tie
 
 returns : tie.Need-returns
 unfolding kindOk metricByte modelLength
-returns c = rw (c .within .ensures, c .before .count-at .ensures .0)
+returns c = rw (metric-bytes, c .within .ensures, c .before .count-at .ensures .0)
 
 pub kind-holds-spec : {M : Type 1} → statement M
 kind-holds-spec = tie.close (tie.spec

@@ -18,6 +18,7 @@ returns c =
       table = rw (c .before .before .before .count-at .ensures .0);
       entries = rw (c .before .before .before .count-at .ensures .0) (rw (rw (c .before .before .before .count-at .ensures .0) at (c .before .before .count-at2 .ensures .0)));
       end = omega (arith, e);
+      long = h .long;
       short = h .short;
       low = h .low;
       high = h .high;

@@ -4,11 +4,12 @@ use mathlib.Core.Path.{_≡_, refl, sym, ap, _∙_}
 use mathlib.Core.Bool.{true}
 use mathlib.Core.List.{_++_, map}
 use Prim.Native.Nat.{_+_, _-_, _≤_, _<_}
-use lib.ListN.{length, drop, set, length-set, length-map}
+use lib.ListN.{length, drop, set, length-set}
 use Rattle.le.proofs.Pastes.{set-next}
 use Rattle.rank.specs.Rows.{passing}
+use Rattle.rank.proofs.Rows.{passing-none}
 use Rattle.manifest.specs.Scratch.{key}
-use Rattle.manifest.proofs.Keys.{all-rows, keys-more}
+use Rattle.manifest.proofs.Keys.{count-keys, keys-more}
 use Rattle.manifest.proofs.fill.Statement.{statement}
 use Rattle.manifest.proofs.fill.Tie as tie
 
@@ -27,7 +28,7 @@ again c =
     let t = b .args .scratch .now in
     let h = c .before .if1 .taken in
     let i : L .row < length t = omega (arith, h, b .pre .1) in
-    (search needs, length-set (L .scratch) (L .row) (c .key-of .result) ∙ L .inv .1, ap (λ l. set l (L .row) (c .key-of .result)) (L .inv .2) ∙ rw (c .key-of .ensures) (set-next (map (key m) (passing (λ r. true) (L .row))) t (L .row) (key m (L .row)) 0 (length-map (passing (λ r. true) (L .row)) (key m) ∙ all-rows (L .row)) i ∙ ap (λ k. k ++ drop (L .row + 1) t) (sym (keys-more m (L .row)))))
+    (search needs, length-set (L .scratch) (L .row) (c .key-of .result) ∙ L .inv .1, ap (λ l. set l (L .row) (c .key-of .result)) (L .inv .2) ∙ rw (c .key-of .ensures) (set-next (map (key m) (passing (λ r. true) (L .row))) t (L .row) (key m (L .row)) 0 (count-keys m (L .row)) i ∙ ap (λ k. k ++ drop (L .row + 1) t) (sym (keys-more m (L .row)))))
 
 pub fill-spec : {M : Type 1} → statement M
 fill-spec =
@@ -35,7 +36,7 @@ fill-spec =
     (tie.spec
     Inv-loop
     μ-loop
-    (λ c. (search needs, refl, refl))
+    (λ c. (search needs, refl, rw passing-none))
     (λ c κs. search needs)
     (λ c. search needs)
     (λ c. let L = c .before .before .before .loop in

@@ -1,13 +1,15 @@
 use borrow.Author.Needs.{needs}
 use native.Mathlib.Omega.{arith}
-use mathlib.Core.Path.{_≡_, ap, _∙_}
+use mathlib.Core.Path.{ap, _∙_}
 use mathlib.Core.Bool.{true}
 use mathlib.Core.List.{_++_, map}
-use lib.ListN.{length, drop, length-map, length-take}
+use lib.Dec.{leb}
+use lib.ListN.{length, drop, length-take}
 use Rattle.rank.specs.Rows.{passing}
 use Rattle.format.specs.Fields.{rowsOf}
 use Rattle.manifest.specs.Scratch.{key}
-use Rattle.manifest.proofs.Keys.{all-rows, sort-keys, sort-front, length-ordered}
+use Rattle.rank.proofs.Sort.{sort-front}
+use Rattle.manifest.proofs.Keys.{count-keys, sort-keys, length-ordered}
 use Rattle.manifest.proofs.order.Statement.{statement}
 use Rattle.manifest.proofs.order.Tie as tie
 
@@ -19,8 +21,7 @@ returns c =
     let n = b .args .layout .rows in
     let f = c .before .before .before .before .before .before .fill .ensures in
     let a = map (key m) (passing (λ r. true) (rowsOf m)) in
-    let l : length a ≡ rowsOf m = length-map (passing (λ r. true) (rowsOf m)) (key m) ∙ all-rows (rowsOf m) in
-    rw (c .before .before .heap-sort .ensures, f, b .pre .0 .rows) (sort-front (rowsOf m) a t l ∙ ap (λ k. k ++ drop (rowsOf m) t) (sort-keys m (b .pre .2) (b .pre .0 .most)))
+    rw (c .before .before .heap-sort .ensures, f, b .pre .0 .rows) (sort-front leb (rowsOf m) a (drop (rowsOf m) t) (count-keys m (rowsOf m)) ∙ ap (λ k. k ++ drop (rowsOf m) t) (sort-keys m (b .pre .2) (b .pre .0 .most)))
 
 pub order-spec : {M : Type 1} → statement M
 order-spec =
