@@ -4,16 +4,20 @@ use mathlib.Core.Bool.{true}
 use Prim.Native.Nat.{ℕ, _+_, _*_, _≤_}
 use native.Mathlib.Nat.{mul-le-mul}
 use native.Mathlib.Omega.{arith}
-use borrow.Author.Tests.{leb-true}
+use borrow.Author.Tests.{leb-true, le-leb}
 use Rattle.le.proofs.Chain.{held}
 use Rattle.config.specs.Limits.{maxCodeBytes, maxCacheBytes}
 use Rattle.format.proofs.Heads.{both, in-range}
 use Rattle.config.proofs.Refusals.{not-zero}
 use Rattle.geometry.specs.Cache.{identityLength, rowLength, cacheSize}
-use Rattle.geometry.specs.Sizing.{placeOk, optionsOk, codesOk, sizeOk, sizingNumber}
+use Rattle.geometry.specs.Sizing.{placeOk, optionsOk, defaultOptions, codesOk, sizeOk, sizingNumber}
 
 pub place-in : (platform root : ℕ) → placeOk platform root ≡ true → (platform ≤ 64) × (root ≤ 1048576)
 place-in platform root h = let p = both h in (leb-true platform 64 (p .0), leb-true root 1048576 (p .1))
+
+-- a row of any dimensions that are allowed fits the default block
+pub default-options : (dimensions : ℕ) → dimensions ≤ 4096 → optionsOk (defaultOptions .«max_cache_bytes») (defaultOptions .«buffer_bytes») (rowLength dimensions) ≡ true
+default-options dimensions h = rw (le-leb (rowLength dimensions) 1048576 (omega arith))
 
 -- the rows of an accepted manifest
 pub rows-in : (rows dimensions : ℕ) → rows ≤ 1000000 → dimensions ≤ 4096 → rows * rowLength dimensions ≤ 4112000000

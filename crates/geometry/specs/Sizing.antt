@@ -6,6 +6,7 @@ use lib.Dec.{leb}
 use Rattle.config.specs.Limits.{maxCodeBytes, maxCacheBytes}
 use Rattle.format.specs.Order.{unless, within}
 use Rattle.geometry.specs.Cache.{identityLength, rowLength, cacheSize}
+use Rattle.geometry.specs.declared.Options.{Options}
 
 -- "10: platform name over 64 bytes (added), root over 1,048,576"
 abbrev pub placeOk : ℕ → ℕ → Bool
@@ -14,6 +15,11 @@ placeOk platform root = leb platform 64 && leb root 1048576
 -- "7: cache limit 0 or over 1,073,741,824, block under one row or over 16,777,216"
 abbrev pub optionsOk : ℕ → ℕ → ℕ → Bool
 optionsOk limit block row = within 1 maxCacheBytes limit && within row 16777216 block
+
+-- document 01, The list program: "uses the default options"; quantized_cache.rs, `Default`: the most that the limit may be, and a block of
+-- 1,048,576
+abbrev pub defaultOptions : Options
+defaultOptions = record { «max_cache_bytes» = maxCacheBytes; «buffer_bytes» = 1048576 }
 
 -- "8: rows × dimensions over 536,870,912"
 abbrev pub codesOk : ℕ → ℕ → Bool

@@ -5,7 +5,7 @@ ghost use lib.ListN.{length, take, drop};
 ghost use Rattle.le.specs.Le.{paste};
 ghost use Rattle.format.specs.Same.{sameBytes};
 ghost use Rattle.geometry.specs.Cache.{counted, identity as identityOf, identityLength, cacheHead, rowLength, cacheSize, Lent};
-ghost use Rattle.geometry.specs.Sizing.{placeOk, optionsOk, codesOk, sizingNumber};
+ghost use Rattle.geometry.specs.Sizing.{placeOk, optionsOk, defaultOptions, codesOk, sizingNumber};
 ghost use Rattle.geometry.specs.Open.{headOk, sameIdentity, openNumber};
 
 // "VECSQ801"
@@ -29,6 +29,15 @@ impl Options {
     pub const DEFAULT_MAX_CACHE_BYTES: usize = 1_073_741_824;
 
     pub const DEFAULT_BUFFER_BYTES: usize = 1_048_576;
+
+    pub fn default() -> Options
+        ensures { λ r. ⌜ r ≡ defaultOptions ⌝ }
+    {
+        Options {
+            max_cache_bytes: Options::DEFAULT_MAX_CACHE_BYTES,
+            buffer_bytes: Options::DEFAULT_BUFFER_BYTES,
+        }
+    }
 
     // Sizing's 7.
     fn validate(self, row_bytes: usize) -> bool

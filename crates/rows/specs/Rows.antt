@@ -1,20 +1,15 @@
 -- The encoder's own row of each record, over the levels and the midpoints (document 01, The arithmetic, Encoder; The report: "Written and
 -- built by one encoder: from the records lent").
 use mathlib.Core.List.{List, [], _++_}
-use Prim.Native.Nat.{ℕ, zero, suc, _+_}
+use Prim.Native.Nat.{ℕ, zero, suc}
 use lib.Ieee.{Float}
 use Rattle.config.specs.Refusal.{none, refusedAt}
 use Rattle.config.specs.declared.Refusal.{Refusal}
-use Rattle.config.specs.Vector.{floatsAt}
 use Rattle.quantization.specs.View.{View, rowBytes}
 use Rattle.quantization.specs.Encoder.{encode}
 use Rattle.format.specs.Order.{firstBad}
-use Rattle.format.specs.Fields.{dimensionsOf, rowsOf}
-use Rattle.segment.specs.Record.{recordAt, recordOk}
-
--- a record's coordinates (Layouts: "A record is id, metadata length, f32 coordinates, UTF-8 metadata")
-abbrev pub vectorOf : List ℕ → List ℕ → ℕ → List Float
-vectorOf m s r = floatsAt (dimensionsOf m) s (recordAt m r + 12)
+use Rattle.format.specs.Fields.{rowsOf}
+use Rattle.segment.specs.Record.{vectorOf, recordOk}
 
 abbrev pub rowOf : ℕ → List Float → List ℕ → List ℕ → ℕ → View
 rowOf levels mids m s r = encode levels mids (vectorOf m s r)

@@ -5,13 +5,12 @@ ghost use Prim.Native.Nat.{_+_, _*_, _≤_, _<_};
 ghost use lib.ListN.{length};
 ghost use Rattle.le.specs.Le.{paste};
 ghost use Rattle.format.specs.Fields.{metricAt, rowsOf, dimensionsOf};
-ghost use Rattle.format.specs.Head.{headNumber};
 ghost use Rattle.format.specs.Plan.{rowsOk};
 ghost use Rattle.format.specs.Layout.{Placed};
 ghost use Rattle.quantization.specs.View.{rowBytes};
-ghost use Rattle.quantization.specs.Encoder.{midpoints};
+ghost use Rattle.quantization.specs.Encoder.{Levels, midpoints, midpointsOf};
 ghost use Rattle.manifest.specs.Scratch.{rowKeys};
-ghost use Rattle.segment.specs.Record.{recordOk, Starts};
+ghost use Rattle.segment.specs.Record.{recordOk, startsOf};
 ghost use Rattle.rows.specs.Rows.{rowOf, rowsBytes, badRow, recordsRefusal};
 use config::Metric;
 use config::Refusal;
@@ -19,7 +18,7 @@ use format::Layout;
 
 // The lowest row whose record fails, or the row count.
 fn bad_row(m: &[u8], layout: Layout, metric: Metric, starts: &[u64; 1025], s: &[u8]) -> usize
-    requires { ⌜ Placed (now m) layout × (metric ≡ metricAt (now m)) × (rowsOk (now m) ≡ true) × Starts (now m) (now starts) ⌝ }
+    requires { ⌜ Placed (now m) layout × (metric ≡ metricAt (now m)) × (rowsOk (now m) ≡ true) × (now starts ≡ startsOf (now m)) ⌝ }
     ensures { λ r. ⌜ r ≡ badRow (now (m .entry)) (now (s .entry)) ⌝ }
 {
     let mut row = 0;
@@ -41,7 +40,7 @@ fn lowest_bad(
     s: &[u8],
     keys: &[u64],
 ) -> usize
-    requires { ⌜ Placed (now m) layout × (metric ≡ metricAt (now m)) × (rowsOk (now m) ≡ true) × Starts (now m) (now starts) × (now keys ≡ rowKeys (now m)) ⌝ }
+    requires { ⌜ Placed (now m) layout × (metric ≡ metricAt (now m)) × (rowsOk (now m) ≡ true) × (now starts ≡ startsOf (now m)) × (now keys ≡ rowKeys (now m)) ⌝ }
     ensures { λ r. ⌜ r ≡ badRow (now (m .entry)) (now (s .entry)) ⌝ }
 {
     let first = segment::bad_record(m, layout, metric, starts, s, keys);
@@ -59,7 +58,7 @@ pub fn records_refusal(
     s: &[u8],
     keys: &[u64],
 ) -> Refusal
-    requires { ⌜ (headNumber (now m) ≡ 0) × Placed (now m) layout × (rowsOk (now m) ≡ true) × Starts (now m) (now starts) × (now keys ≡ rowKeys (now m)) ⌝ }
+    requires { ⌜ Placed (now m) layout × (rowsOk (now m) ≡ true) × (now starts ≡ startsOf (now m)) × (now keys ≡ rowKeys (now m)) ⌝ }
     ensures { λ r. ⌜ r ≡ recordsRefusal (now (m .entry)) (now (s .entry)) ⌝ }
 {
     let bad = lowest_bad(m, layout, format::metric(m), starts, s, keys);
@@ -75,21 +74,22 @@ pub fn records_refusal(
     }
 }
 
-// The row of a record that passes, into its own part of the cache; `t` are the midpoints.
+// The row of a record that passes, at this level count, into its own part of the cache; `t` are the midpoints.
 fn put_row(
     m: &[u8],
     layout: Layout,
     starts: &[u64; 1025],
     t: &[f64; 127],
+    levels: u32,
     s: &[u8],
     part: &mut [u8],
     row: usize,
 )
-    requires { ⌜ Placed (now m) layout × (rowsOk (now m) ≡ true) × Starts (now m) (now starts) × (now t ≡ midpoints) × (row < layout .rows) × (recordOk (now m) (now s) row ≡ true) × (length (now part) ≡ dimensionsOf (now m) + 16) ⌝ }
-    ensures { λ r. ⌜ now (part .exit) ≡ rowBytes (rowOf 127 midpoints (now (m .entry)) (now (s .entry)) row) ⌝ }
+    requires { ⌜ Placed (now m) layout × (rowsOk (now m) ≡ true) × (now starts ≡ startsOf (now m)) × (now t ≡ midpoints) × Levels levels × (row < layout .rows) × (recordOk (now m) (now s) row ≡ true) × (length (now part) ≡ dimensionsOf (now m) + 16) ⌝ }
+    ensures { λ r. ⌜ now (part .exit) ≡ rowBytes (rowOf levels (midpointsOf levels) (now (m .entry)) (now (s .entry)) row) ⌝ }
 {
     let at = segment::record_at(m, layout, starts, row);
-    quantization::encode_row(t, s, at + 12, part);
+    quantization::encode_row(t, levels, s, at + 12, part);
 }
 
 // The rows of a library whose records all pass, one after the other, each of `size` bytes, from a place of the cache on.
@@ -98,19 +98,20 @@ pub fn put_rows(
     layout: Layout,
     starts: &[u64; 1025],
     t: &[f64; 127],
+    levels: u32,
     s: &[u8],
     cache: &mut [u8],
     at: usize,
     size: usize,
 )
-    requires { ⌜ Placed (now m) layout × (rowsOk (now m) ≡ true) × Starts (now m) (now starts) × (now t ≡ midpoints) × (badRow (now m) (now s) ≡ rowsOf (now m)) × (size ≡ dimensionsOf (now m) + 16) × (at + rowsOf (now m) * size ≤ length (now cache)) ⌝ }
-    ensures { λ r. ⌜ now (cache .exit) ≡ paste (now (cache .entry)) at (rowsBytes 127 midpoints (now (m .entry)) (now (s .entry)) (rowsOf (now (m .entry)))) ⌝ }
+    requires { ⌜ Placed (now m) layout × (rowsOk (now m) ≡ true) × (now starts ≡ startsOf (now m)) × (now t ≡ midpoints) × Levels levels × (badRow (now m) (now s) ≡ rowsOf (now m)) × (size ≡ dimensionsOf (now m) + 16) × (at + rowsOf (now m) * size ≤ length (now cache)) ⌝ }
+    ensures { λ r. ⌜ now (cache .exit) ≡ paste (now (cache .entry)) at (rowsBytes levels (midpointsOf levels) (now (m .entry)) (now (s .entry)) (rowsOf (now (m .entry)))) ⌝ }
 {
     let mut from = at;
     let mut row = 0;
     while row < layout.rows {
         let end = from + size;
-        put_row(m, layout, starts, t, s, &mut cache[from..end], row);
+        put_row(m, layout, starts, t, levels, s, &mut cache[from..end], row);
         from = end;
         row += 1;
     }

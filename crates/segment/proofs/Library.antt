@@ -1,14 +1,14 @@
 -- What an accepted library is: its entries lie in the segments, ids rise, each record passes its test; and such a library is accepted.
 -- Assumes nothing.
-use mathlib.Core.Path.{_≡_, sym, ap, _∙_}
-use mathlib.Core.Bool.{Bool, true, cond, true≢false}
+use mathlib.Core.Path.{_≡_, ap}
+use mathlib.Core.Bool.{true, cond}
+use mathlib.Core.Logic.{_↔_}
 use mathlib.Core.List.{List}
 use Prim.Native.Nat.{ℕ, _+_, _≤_, _<_}
-use native.Mathlib.Omega.{arith}
 use lib.Dec.{eqb}
 use lib.ListN.{length, getD}
-use borrow.Author.Tests.{eqb-true, eqb-false, eq-eqb}
-use Rattle.le.proofs.Chain.{by}
+use borrow.Author.Tests.{eqb-true, eq-eqb}
+use Rattle.le.proofs.LeLaws.{AllBytes}
 use Rattle.rank.proofs.Members.{all-at, mem-getD}
 use Rattle.config.specs.Refusal.{none, refused}
 use Rattle.config.specs.declared.Refusal.{Refusal}
@@ -16,14 +16,18 @@ use Rattle.config.proofs.Refusals.{not-zero, held-number, none-refused as both-
 use Rattle.format.specs.Fields.{segmentsOf, rowsOf, idAt, segmentAt, recordLength}
 use Rattle.format.specs.Plan.{planNumber}
 use Rattle.format.proofs.Heads.{bounds}
-use Rattle.format.proofs.First.{each-passes, all-pass, first-within, first-fails}
+use Rattle.format.proofs.First.{each-passes, all-pass}
+use Rattle.format.proofs.Refusals.{each-none, all-none}
+use Rattle.format.specs.Same.{sameHead}
+use Rattle.format.proofs.Same.{Unchanged}
 use Rattle.format.proofs.Entries.{Entered, entered, entry-keeps, lengths-of, ids-rise}
 use Rattle.manifest.specs.Tiling.{inSegment, tiled}
-use Rattle.manifest.specs.Check.{manifestNumber}
+use Rattle.manifest.specs.Check.{manifestNumber, checkedBy}
 use Rattle.manifest.proofs.Passed.{Planned, accepted, plans}
+use Rattle.manifest.proofs.Heads.{answered-head}
 use Rattle.manifest.proofs.Parts.{of-segment, in-segment}
 use Rattle.segment.specs.Record.{startOf, recordAt, recordOk}
-use Rattle.segment.specs.Check.{badRecord, segmentCrcOk, rowsRefusal, segmentRefusal, badSegment, inOrder, segmentsRefusal, libraryRefusal}
+use Rattle.segment.specs.Check.{badRecord, segmentCrcOk, rowsRefusal, segmentRefusal, inOrder, segmentsRefusal, libraryRefusal, checkedLibrary}
 use Rattle.segment.proofs.Places.{record-within}
 
 -- a segment that is not refused: its rows' records pass, and its CRC-32
@@ -34,18 +38,6 @@ rows-pass m s n rows h =
     let a = held-number (eqb (badRecord m s rows) (length rows)) (cond (segmentCrcOk m s n) none (refused 6 n)) (refused 5 (getD rows (badRecord m s rows) 0)) not-zero h in
     let b = held-number (segmentCrcOk m s n) none (refused 6 n) not-zero (a .1) in
     ((λ i k. each-passes (λ j. recordOk m s (getD rows j 0)) (length rows) i (eqb-true (badRecord m s rows) (length rows) (a .0)) k), b .0)
-
--- all segments in order
-order-pass : (m s : List ℕ) (n : ℕ) → inOrder m s .number ≡ 0 → n < segmentsOf m → segmentRefusal m s n .number ≡ 0
-unfolding inOrder
-order-pass m s n h k =
-    let ok : ℕ → Bool = λ i. eqb (segmentRefusal m s i .number) 0 in
-    by (eqb (badSegment m s) (segmentsOf m))
-    (λ e. eqb-true (segmentRefusal m s n .number) 0 (each-passes ok (segmentsOf m) n (eqb-true (badSegment m s) (segmentsOf m) e) k))
-    (λ e. let f : segmentRefusal m s (badSegment m s) .number ≡ 0 = rw e at h in
-    let w = first-within ok (segmentsOf m) in
-    let d = eqb-false (badSegment m s) (segmentsOf m) e in
-    absurd (true≢false (sym (eq-eqb (segmentRefusal m s (badSegment m s) .number) 0 f) ∙ first-fails ok (segmentsOf m) (omega (arith, w, d)))))
 
 pub record Accepted (m : List ℕ) (expected room : ℕ) (s : List ℕ) : Type 0 where
   pub passed : Planned m expected room
@@ -66,7 +58,7 @@ library-accepted m expected room s h =
     let b = held-number (eqb (length s) (startOf m (segmentsOf m))) (inOrder m s) (refused 5 0) not-zero (n .1) in
     let w = eqb-true (length s) (startOf m (segmentsOf m)) (b .0) in
     let each : (n : ℕ) → n < segmentsOf m → ((i : ℕ) → i < length (inSegment m n) → recordOk m s (getD (inSegment m n) i 0) ≡ true) × (segmentCrcOk m s n ≡ true) =
-    λ n k. rows-pass m s n (inSegment m n) (order-pass m s n (b .1) k) in
+    λ n k. rows-pass m s n (inSegment m n) (each-none (segmentRefusal m s) (segmentsOf m) (b .1) n k) in
     record {
       passed = a .0;
       tiling = a .1;
@@ -92,9 +84,14 @@ unfolding manifestNumber
 accepted-number {m} {expected} {room} a = rw (eq-eqb (planNumber m expected room) 0 (plans (a .passed)), a .tiling)
 
 pub accepted-library : (m : List ℕ) (expected room : ℕ) (s : List ℕ) → Accepted m expected room s → libraryRefusal m expected room s ≡ none
-unfolding libraryRefusal segmentsRefusal inOrder
+unfolding libraryRefusal segmentsRefusal
 accepted-library m expected room s a =
-    let n = accepted-number a in
-    let each : (n : ℕ) → n < segmentsOf m → eqb (segmentRefusal m s n .number) 0 ≡ true =
-    λ n k. eq-eqb (segmentRefusal m s n .number) 0 (ap (λ (r : Refusal). r .number) (none-refused m expected room s a n k)) in
-    rw (eq-eqb (manifestNumber m expected room) 0 n, eq-eqb (length s) (startOf m (segmentsOf m)) (a .whole), eq-eqb (badSegment m s) (segmentsOf m) (all-pass (λ n. eqb (segmentRefusal m s n .number) 0) (segmentsOf m) each))
+    rw (eq-eqb (manifestNumber m expected room) 0 (accepted-number a), eq-eqb (length s) (startOf m (segmentsOf m)) (a .whole))
+    (all-none (segmentRefusal m s) (segmentsOf m) (λ n k. ap (λ (r : Refusal). r .number) (none-refused m expected room s a n k)))
+
+-- the head that the check hands out (readings R3)
+pub library-head : (m m₀ : List ℕ) → AllBytes m → AllBytes m₀ → (expected room : ℕ) (s : List ℕ) → checkedLibrary m₀ expected room s .refusal .number ≡ 0
+    → (sameHead m (checkedLibrary m₀ expected room s .head) ≡ true) ↔ Unchanged m m₀
+unfolding checkedBy libraryRefusal
+library-head m m₀ b b₀ expected room s h =
+    answered-head m m₀ b b₀ expected room (libraryRefusal m₀ expected room s) (both-none (manifestNumber m₀ expected room) (segmentsRefusal m₀ s) h .0) h

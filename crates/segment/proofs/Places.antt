@@ -1,13 +1,15 @@
 -- Where segments and records lie in the slice. Assumes nothing.
-use mathlib.Core.Path.{_≡_, refl, _∙_}
+use mathlib.Core.Path.{_≡_, refl, sym, _∙_}
 use mathlib.Core.Bool.{true}
 use mathlib.Core.List.{List, map}
 use mathlib.Core.Logic.{⊎-elim}
-use Prim.Native.Nat.{ℕ, zero, suc, _+_, _*_, _≤_, _<_}
+use Prim.Native.Nat.{ℕ, zero, suc, _+_, _-_, _*_, _≤_, _<_}
 use native.Mathlib.Numerals.{add-one}
 use native.Mathlib.Omega.{arith}
-use lib.ListN.{length, getD, set, replicate, length-set, length-replicate, List·getD-map}
-use lib.Seq.{getD-set-same, getD-set-other}
+use lib.ListN.{getD, set, replicate, List·getD-map, List·getD-append}
+use lib.Seq.{set-at, append-snoc}
+use Rattle.crc32.specs.Tables.{tab}
+use Rattle.crc32.proofs.Tab.{at, length-tab, tab-more}
 use Rattle.format.specs.Layout.{Placed}
 use Rattle.format.specs.declared.Layout.{Layout}
 use Rattle.le.proofs.Chain.{lt-or-le}
@@ -16,7 +18,7 @@ use Rattle.format.specs.Head.{lengthsOk}
 use Rattle.format.specs.Plan.{entryOk}
 use Rattle.format.proofs.Entries.{length-bounds, entered-by}
 use Rattle.manifest.specs.Scratch.{keyRow}
-use Rattle.segment.specs.Record.{startOf, recordAt}
+use Rattle.segment.specs.Record.{startOf, recordAt, startsTo, startsOf}
 
 pub start-more : (m : List ℕ) (n : ℕ) → startOf m (n + 1) ≡ startOf m n + lengthOf m n
 unfolding startOf
@@ -54,6 +56,10 @@ module _ (m : List ℕ) (ok : lengthsOk m ≡ true) where
   pub all-bound : startOf m (segmentsOf m) ≤ segmentsOf m * 67108864
   all-bound = start-bound (segmentsOf m) (omega arith)
 
+-- a record ends where it can be counted
+pub record-bound : {m : List ℕ} {l : Layout} → Placed m l → lengthsOk m ≡ true → (r : ℕ) → entryOk m r ≡ true → recordAt m r + recordLength m r ≤ 1024 * 67108864
+record-bound {m} p ok r h = let w = record-within m ok r h in let q = all-bound m ok in omega (arith, w, q, p .few)
+
 -- ---- the starts, one a turn
 pub next-start : (m : List ℕ) (l : Layout) → Placed m l → lengthsOk m ≡ true → {n sum x : ℕ} → n < l .segments → sum ≡ startOf m n → x ≡ lengthOf m n
     → (sum + x ≡ startOf m (n + 1)) × (sum + x ≤ 1024 * 67108864)
@@ -64,20 +70,24 @@ next-start m l p ok {n} {sum} {x} h e f =
     let s : sum + x ≡ startOf m (n + 1) = omega (arith, e, f, g) in
     (s, omega (arith, s, q, k, p .few))
 
-pub record Upto (m t : List ℕ) (n : ℕ) : Type 0 where
-  pub size : length t ≡ 1025
-  pub at : (k : ℕ) → k ≤ n → getD t k 0 ≡ startOf m k
+pub starts-none : (m : List ℕ) → replicate 1025 0 ≡ startsTo m 0
+unfolding startsTo startOf
+starts-none m = refl
 
-pub upto-none : (m : List ℕ) → Upto m (replicate 1025 0) 0
-upto-none m = record { size = length-replicate {A = ℕ} 1025 0; at = λ k h. let e : k ≡ 0 = omega (arith, h) in rw (e, start-none m) }
+pub starts-more : (m : List ℕ) (n : ℕ) {v : ℕ} → n < 1024 → v ≡ startOf m (n + 1) → set (startsTo m n) (n + 1) v ≡ startsTo m (n + 1)
+unfolding startsTo
+starts-more m n {v} h e =
+    let g = startOf m in
+    let z : List ℕ = replicate (1024 - (n + 1)) 0 in
+    let k : 1024 - n ≡ suc (1024 - (n + 1)) = omega arith in
+    rw k (set-at (tab g 0 (n + 1)) 0 z v (n + 1) (length-tab g 0 (n + 1)) ∙ rw (tab-more g (n + 1), e) (sym (append-snoc (tab g 0 (n + 1)) (g (n + 1)) z)))
 
-pub upto-more : {m t : List ℕ} {n sum : ℕ} → n < 1025 → sum ≡ startOf m n → {k : ℕ} → n ≡ k + 1 → Upto m t k → Upto m (set t n sum) n
-upto-more {m} {t} {n} {sum} h e {k} p u =
-    record {
-      size = length-set t n sum ∙ u .size;
-      at = λ j q. ⊎-elim (λ (l : j < n). getD-set-other t n j sum 0 (λ w. omega (arith, l, w)) ∙ u .at j (omega (arith, l, p)))
-          (λ (g : n ≤ j). let f : j ≡ n = omega (arith, g, q) in rw f (getD-set-same t n sum 0 (rw (u .size) h) ∙ e)) (lt-or-le j n);
-    }
+pub start-at : (m : List ℕ) {t : List ℕ} → t ≡ startsOf m → (n : ℕ) → n ≤ segmentsOf m → getD t n 0 ≡ startOf m n
+unfolding startsTo
+start-at m e n h =
+    let g = startOf m in
+    let k : n < segmentsOf m + 1 = omega arith in
+    rw e (List·getD-append (tab g 0 (segmentsOf m + 1)) (replicate (1024 - segmentsOf m) 0) 0 n (rw (length-tab g 0 (segmentsOf m + 1)) k) ∙ at g (segmentsOf m + 1) n k)
 
 -- the row of the i-th key
 pub row-at : (keys : List ℕ) (i : ℕ) → getD (map keyRow keys) i 0 ≡ keyRow (getD keys i 0)

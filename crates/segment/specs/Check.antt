@@ -10,7 +10,7 @@ use Rattle.crc32.specs.Crc.{crc32}
 use Rattle.config.specs.Refusal.{none, refused, refusedOr}
 use Rattle.config.specs.declared.Refusal.{Refusal}
 use Rattle.format.specs.Fields.{segmentsOf, lengthOf, crcOf}
-use Rattle.format.specs.Order.{firstBad}
+use Rattle.format.specs.Order.{firstBad, firstRefusal}
 use Rattle.manifest.specs.Tiling.{inSegment}
 use Rattle.manifest.specs.Check.{manifestNumber, checkedBy}
 use Rattle.manifest.specs.declared.Checked.{Checked}
@@ -35,12 +35,9 @@ rowsRefusal m s n rows =
 abbrev pub segmentRefusal : List ℕ → List ℕ → ℕ → Refusal
 segmentRefusal m s n = rowsRefusal m s n (inSegment m n)
 
--- the first segment that is refused, or their count
-abbrev pub badSegment : List ℕ → List ℕ → ℕ
-badSegment m s = firstBad (λ n. eqb (segmentRefusal m s n .number) 0) (segmentsOf m)
-
-unfoldable pub inOrder : List ℕ → List ℕ → Refusal
-inOrder m s = cond (eqb (badSegment m s) (segmentsOf m)) none (segmentRefusal m s (badSegment m s))
+-- the first segment that is refused
+abbrev pub inOrder : List ℕ → List ℕ → Refusal
+inOrder m s = firstRefusal (segmentRefusal m s) (segmentsOf m)
 
 unfoldable pub segmentsRefusal : List ℕ → List ℕ → Refusal
 segmentsRefusal m s = cond (eqb (length s) (startOf m (segmentsOf m))) (inOrder m s) (refused 5 0)

@@ -11,7 +11,7 @@ ghost use Rattle.format.specs.Plan.{rowsOk, entryOk};
 ghost use Rattle.format.specs.Layout.{Placed};
 ghost use Rattle.manifest.specs.Scratch.{keyRow, Below, rowKeys};
 ghost use Rattle.manifest.specs.Check.{scratchAfter};
-ghost use Rattle.segment.specs.Record.{startOf, recordAt, partsOk, recordOk, Starts};
+ghost use Rattle.segment.specs.Record.{startOf, recordAt, metadataStart, partsOk, recordOk, startsOf};
 ghost use Rattle.segment.specs.Check.{badRecord, segmentCrcOk, rowsRefusal, inOrder, segmentsRefusal, checkedLibrary};
 use config::Metric;
 use config::Refusal;
@@ -26,10 +26,10 @@ fn wide(x: u32) -> usize
 
 // ---- Where segments and records begin.
 
-// And where the last segment ends.
+// And where the last segment ends; zeros after it.
 pub fn starts(m: &[u8], layout: Layout) -> [u64; 1025]
     requires { ⌜ Placed (now m) layout × (lengthsOk (now m) ≡ true) ⌝ }
-    ensures { λ r. ⌜ Starts (now (m .entry)) r ⌝ }
+    ensures { λ r. ⌜ r ≡ startsOf (now (m .entry)) ⌝ }
 {
     let mut starts = [0u64; 1025];
     let mut sum = 0;
@@ -43,11 +43,19 @@ pub fn starts(m: &[u8], layout: Layout) -> [u64; 1025]
 }
 
 pub fn record_at(m: &[u8], layout: Layout, starts: &[u64; 1025], row: usize) -> usize
-    requires { ⌜ Placed (now m) layout × (lengthsOk (now m) ≡ true) × Starts (now m) (now starts) × (row < layout .rows) × (entryOk (now m) row ≡ true) ⌝ }
+    requires { ⌜ Placed (now m) layout × (lengthsOk (now m) ≡ true) × (now starts ≡ startsOf (now m)) × (row < layout .rows) × (entryOk (now m) row ≡ true) ⌝ }
     ensures { λ r. ⌜ r ≡ recordAt (now (m .entry)) row ⌝ }
 {
     let e = format::read_entry(m, layout, row);
     starts[wide(e.segment)] as usize + wide(e.offset)
+}
+
+// Where the metadata of a row's record begin.
+pub fn metadata_start(m: &[u8], layout: Layout, starts: &[u64; 1025], row: usize) -> usize
+    requires { ⌜ Placed (now m) layout × (lengthsOk (now m) ≡ true) × (now starts ≡ startsOf (now m)) × (row < layout .rows) × (entryOk (now m) row ≡ true) ⌝ }
+    ensures { λ r. ⌜ r ≡ metadataStart (now (m .entry)) row ⌝ }
+{
+    record_at(m, layout, starts, row) + 12 + 4 * layout.dimensions
 }
 
 // ---- Records.
@@ -81,7 +89,7 @@ pub fn record_holds(
     s: &[u8],
     row: usize,
 ) -> bool
-    requires { ⌜ Placed (now m) layout × (metric ≡ metricAt (now m)) × (lengthsOk (now m) ≡ true) × Starts (now m) (now starts) × (row < layout .rows) × (entryOk (now m) row ≡ true) ⌝ }
+    requires { ⌜ Placed (now m) layout × (metric ≡ metricAt (now m)) × (lengthsOk (now m) ≡ true) × (now starts ≡ startsOf (now m)) × (row < layout .rows) × (entryOk (now m) row ≡ true) ⌝ }
     ensures { λ r. ⌜ r ≡ recordOk (now (m .entry)) (now (s .entry)) row ⌝ }
 {
     let e = format::read_entry(m, layout, row);
@@ -102,7 +110,7 @@ pub fn bad_record(
     s: &[u8],
     keys: &[u64],
 ) -> usize
-    requires { ⌜ Placed (now m) layout × (metric ≡ metricAt (now m)) × (rowsOk (now m) ≡ true) × Starts (now m) (now starts) × Below (layout .rows) (now keys) ⌝ }
+    requires { ⌜ Placed (now m) layout × (metric ≡ metricAt (now m)) × (rowsOk (now m) ≡ true) × (now starts ≡ startsOf (now m)) × Below (layout .rows) (now keys) ⌝ }
     ensures { λ r. ⌜ r ≡ badRecord (now (m .entry)) (now (s .entry)) (map keyRow (now (keys .entry))) ⌝ }
 {
     let mut i = 0;
@@ -125,7 +133,7 @@ fn crc_holds(
     s: &[u8],
     n: usize,
 ) -> bool
-    requires { ⌜ Placed (now m) layout × (rowsOk (now m) ≡ true) × Starts (now m) (now starts) × (now tables ≡ slots) × (n < layout .segments) × (length (now s) ≡ startOf (now m) (segmentsOf (now m))) ⌝ }
+    requires { ⌜ Placed (now m) layout × (rowsOk (now m) ≡ true) × (now starts ≡ startsOf (now m)) × (now tables ≡ slots) × (n < layout .segments) × (length (now s) ≡ startOf (now m) (segmentsOf (now m))) ⌝ }
     ensures { λ r. ⌜ r ≡ segmentCrcOk (now (m .entry)) (now (s .entry)) n ⌝ }
 {
     let from = starts[n] as usize;
@@ -145,7 +153,7 @@ fn rows_refusal(
     keys: &[u64],
     n: usize,
 ) -> Refusal
-    requires { ⌜ Placed (now m) layout × (metric ≡ metricAt (now m)) × (rowsOk (now m) ≡ true) × Starts (now m) (now starts) × (now tables ≡ slots) × Below (layout .rows) (now keys) × (n < layout .segments) × (length (now s) ≡ startOf (now m) (segmentsOf (now m))) ⌝ }
+    requires { ⌜ Placed (now m) layout × (metric ≡ metricAt (now m)) × (rowsOk (now m) ≡ true) × (now starts ≡ startsOf (now m)) × (now tables ≡ slots) × Below (layout .rows) (now keys) × (n < layout .segments) × (length (now s) ≡ startOf (now m) (segmentsOf (now m))) ⌝ }
     ensures { λ r. ⌜ r ≡ rowsRefusal (now (m .entry)) (now (s .entry)) n (map keyRow (now (keys .entry))) ⌝ }
 {
     let bad = bad_record(m, layout, metric, starts, s, keys);
@@ -175,7 +183,7 @@ fn in_order(
     s: &[u8],
     keys: &[u64],
 ) -> Refusal
-    requires { ⌜ Placed (now m) layout × (metric ≡ metricAt (now m)) × (rowsOk (now m) ≡ true) × Starts (now m) (now starts) × (now keys ≡ rowKeys (now m)) × (length (now s) ≡ startOf (now m) (segmentsOf (now m))) ⌝ }
+    requires { ⌜ Placed (now m) layout × (metric ≡ metricAt (now m)) × (rowsOk (now m) ≡ true) × (now starts ≡ startsOf (now m)) × (now keys ≡ rowKeys (now m)) × (length (now s) ≡ startOf (now m) (segmentsOf (now m))) ⌝ }
     ensures { λ r. ⌜ r ≡ inOrder (now (m .entry)) (now (s .entry)) ⌝ }
 {
     let tables = crc32::tables();
@@ -228,6 +236,6 @@ pub fn check(manifest: &[u8], expected_crc: u32, scratch: &mut [u64], segments: 
     let layout = format::read_layout(manifest);
     let rows = layout.rows;
     let refusal = segments_refusal(manifest, segments, &scratch[..rows]);
-    manifest::clear(scratch);
+    le::clear(scratch);
     manifest::answer(manifest, refusal)
 }

@@ -6,7 +6,7 @@ use lib.ListN.{length}
 use Rattle.config.specs.Vector.{finites, floatsAt}
 use Rattle.format.specs.Fields.{dimensionsOf}
 use Rattle.format.proofs.Entries.{lengths-of, entry-keeps}
-use Rattle.rows.proofs.Written.{good}
+use Rattle.segment.proofs.Records.{good}
 use Rattle.rows.proofs.put_row.Statement.{statement}
 use Rattle.rows.proofs.put_row.Tie as tie
 
@@ -16,18 +16,18 @@ coordinates : (c : tie.After-record-at)
     (c .record-at .result + 12 + 4 * dimensionsOf (b .args .m .now) ≤ length (b .args .s .now)) × (finites (floatsAt (dimensionsOf (b .args .m .now)) (b .args .s .now) (c .record-at .result + 12)) ≡ true)
 coordinates c =
     let b = c .before .before .before .before in
-    let g = good (b .args .m .now) (b .args .s .now) (b .args .row) (b .pre .5) in
+    let g = good (b .args .m .now) (b .args .s .now) (b .args .row) (b .pre .6) in
     rw (c .record-at .ensures) (g .inside, g .fine)
 
 width : (c : tie.After-record-at) → let b = c .before .before .before .before in length (b .args .part .now) - 16 ≡ dimensionsOf (b .args .m .now)
-width c = let b = c .before .before .before .before in let e = b .pre .6 in omega (arith, e)
+width c = let b = c .before .before .before .before in let e = b .pre .7 in omega (arith, e)
 
 asked : tie.Need-encode-row-requires
 asked c κs =
     let b = c .before .before .before .before .before in
     let h = coordinates (c .before) in
-    let e = b .pre .6 in
-    (b .pre .3, ((omega (arith, e), omega (arith, e, b .pre .0 .high), rw (width (c .before)) (h .0)), rw (width (c .before)) (h .1)))
+    let e = b .pre .7 in
+    ((b .pre .3, b .pre .4), ((omega (arith, e), omega (arith, e, b .pre .0 .high), rw (width (c .before)) (h .0)), rw (width (c .before)) (h .1)))
 
 returns : tie.Need-returns
 returns c =
@@ -40,8 +40,8 @@ put-row-spec =
     (tie.spec
     (λ c κs. let b = c .before .before .before in
     let m = b .args .m .now in
-    (b .pre .0, lengths-of m (b .pre .1), b .pre .2, b .pre .4, entry-keeps m (b .args .row) (b .pre .1) (rw (b .pre .0 .rows) at (b .pre .4))))
+    (b .pre .0, lengths-of m (b .pre .1), b .pre .2, b .pre .5, entry-keeps m (b .args .row) (b .pre .1) (rw (b .pre .0 .rows) at (b .pre .5))))
     (λ c. let h = coordinates c .0 in omega (arith, h))
     asked
-    (λ c. c .before .before .encode-row .kept .1 .1 .1 .0)
+    (λ c. c .before .before .encode-row .kept .1 .1 .1 .1 .0)
     returns)

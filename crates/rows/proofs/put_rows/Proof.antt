@@ -8,7 +8,7 @@ use native.Mathlib.Numerals.{add-one}
 use lib.ListN.{length, length-take, length-drop}
 use Rattle.le.specs.Le.{paste}
 use Rattle.quantization.specs.View.{rowBytes}
-use Rattle.quantization.specs.Encoder.{midpoints}
+use Rattle.quantization.specs.Encoder.{midpointsOf}
 use Rattle.format.specs.Fields.{rowsOf}
 use Rattle.format.proofs.First.{each-passes}
 use Rattle.segment.specs.Record.{recordOk}
@@ -19,11 +19,11 @@ use Rattle.rows.proofs.put_rows.Statement.{statement}
 use Rattle.rows.proofs.put_rows.Tie as tie
 
 abbrev Inv-loop : tie.InvT-loop
-Inv-loop m layout starts t s cache₀ at size from₀ row₀ cache from row =
-    (row ≤ layout .rows) × (from ≡ at + row * size) × (length cache ≡ length cache₀) × (cache ≡ paste cache₀ at (rowsBytes 127 midpoints m s row))
+Inv-loop m layout starts t levels s cache₀ at size from₀ row₀ cache from row =
+    (row ≤ layout .rows) × (from ≡ at + row * size) × (length cache ≡ length cache₀) × (cache ≡ paste cache₀ at (rowsBytes levels (midpointsOf levels) m s row))
 
 abbrev μ-loop : tie.MeasureT-loop
-μ-loop m layout starts t s cache₀ at size from₀ row₀ cache from row = layout .rows - row
+μ-loop m layout starts t levels s cache₀ at size from₀ row₀ cache from row = layout .rows - row
 
 -- the row's part lies in the cache
 lies : (c : tie.Then1 Inv-loop μ-loop)
@@ -35,14 +35,14 @@ lies c =
     let L = c .before .before .loop in
     let k : L .row < rowsOf (b .args .m .now) = rw (b .pre .0 .rows) at (c .if1 .taken) in
     let h = part-ends (L .row) (b .args .size) (rowsOf (b .args .m .now)) k in
-    (k, omega (arith, h, b .pre .6, L .inv .1), L .inv .2)
+    (k, omega (arith, h, b .pre .7, L .inv .1), L .inv .2)
 
 asked : tie.Need-put-row-requires Inv-loop μ-loop
 asked c κs =
     let b = c .before .before .before .before .before .before .before in
     let L = c .before .before .before .loop in
     let h = lies (c .before) in
-    (b .pre .0, b .pre .1, b .pre .2, b .pre .3, c .before .if1 .taken, each-passes (recordOk (b .args .m .now) (b .args .s .now)) (rowsOf (b .args .m .now)) (L .row) (b .pre .4) (h .0), simp (length-take, length-drop) (omega (arith, h .1, h .2, b .pre .5)))
+    (b .pre .0, b .pre .1, b .pre .2, b .pre .3, b .pre .4, c .before .if1 .taken, each-passes (recordOk (b .args .m .now) (b .args .s .now)) (rowsOf (b .args .m .now)) (L .row) (b .pre .5) (h .0), simp (length-take, length-drop) (omega (arith, h .1, h .2, b .pre .6)))
 
 again : tie.Need-loop-again Inv-loop μ-loop
 again c =
@@ -50,8 +50,9 @@ again c =
     let L = c .before .before .before .before .before .before .loop in
     let m = b .args .m .now in
     let s = b .args .s .now in
-    let own : ℕ → List ℕ = λ r. rowBytes (rowOf 127 midpoints m s r) in
-    let o : (r : ℕ) → length (own r) ≡ b .args .size = λ r. length-own m s r ∙ sym (b .pre .5) in
+    let l = b .args .levels in
+    let own : ℕ → List ℕ = λ r. rowBytes (rowOf l (midpointsOf l) m s r) in
+    let o : (r : ℕ) → length (own r) ≡ b .args .size = λ r. length-own l (midpointsOf l) m s r ∙ sym (b .pre .6) in
     let d = b .args .cache .now in
     let h = lies (c .before .before .before .before) in
     let k : (L .row + 1) * b .args .size ≡ L .row * b .args .size + b .args .size = rw (add-one (L .row)) (suc-mul (L .row) (b .args .size)) in
@@ -65,7 +66,7 @@ put-rows-spec =
     Inv-loop
     μ-loop
     (λ c. let b = c .before .before .before in
-    (search needs, omega arith, refl, store-none (λ r. rowBytes (rowOf 127 midpoints (b .args .m .now) (b .args .s .now) r)) (b .args .cache .now) (b .args .at)))
+    (search needs, omega arith, refl, store-none (λ r. rowBytes (rowOf (b .args .levels) (midpointsOf (b .args .levels)) (b .args .m .now) (b .args .s .now) r)) (b .args .cache .now) (b .args .at)))
     (λ c. let h = lies c .1 in omega (arith, h))
     (λ c. search needs)
     (λ c. search needs)

@@ -7,7 +7,7 @@ use Rattle.format.specs.Fields.{lengthOf}
 use Rattle.format.proofs.Entries.{lengths-of}
 use Rattle.segment.specs.Record.{startOf}
 use Rattle.segment.specs.Check.{segmentCrcOk}
-use Rattle.segment.proofs.Places.{Ends, ends}
+use Rattle.segment.proofs.Places.{start-at, Ends, ends}
 use Rattle.segment.proofs.crc_holds.Statement.{statement}
 use Rattle.segment.proofs.crc_holds.Tie as tie
 
@@ -18,7 +18,7 @@ lies : (c : tie.After-segment-length)
 lies c =
     let b = c .before .before .before .before in
     let m = b .args .m .now in
-    (b .pre .2 .at (b .args .n) (omega (arith, b .pre .0 .segments, b .pre .4)), ends m (b .args .layout) (b .pre .0) (lengths-of m (b .pre .1)) (b .args .n) (length (b .args .s .now)) (b .pre .4) (b .pre .5))
+    (start-at m (b .pre .2) (b .args .n) (omega (arith, b .pre .0 .segments, b .pre .4)), ends m (b .args .layout) (b .pre .0) (lengths-of m (b .pre .1)) (b .args .n) (length (b .args .s .now)) (b .pre .4) (b .pre .5))
 
 returns : tie.Need-returns
 unfolding segmentCrcOk

@@ -1,24 +1,19 @@
 use borrow.Author.Needs.{needs}
 use native.Mathlib.Omega.{arith}
 use mathlib.Core.Path.{_≡_, _∙_}
-use mathlib.Core.Bool.{Bool}
-use mathlib.Core.List.{List}
-use Prim.Native.Nat.{ℕ, _-_, _≤_, _<_}
-use lib.Dec.{eqb}
+use Prim.Native.Nat.{_-_, _≤_, _<_}
 use lib.ListN.{length}
-use borrow.Author.Tests.{eq-eqb, ne-eqb}
+use borrow.Author.Tests.{eq-eqb}
 use Rattle.format.specs.Fields.{segmentsOf}
-use Rattle.format.proofs.First.{Reached, reached-start, reached-turn, reached-stop, reached-end}
+use Rattle.format.proofs.First.{Reached, reached-start, reached-turn}
+use Rattle.format.proofs.Refusals.{passes, refusal-stop, refusal-end}
 use Rattle.manifest.proofs.Parts.{Held, held-start, Found, found}
-use Rattle.segment.specs.Check.{segmentRefusal, inOrder}
+use Rattle.segment.specs.Check.{segmentRefusal}
 use Rattle.segment.proofs.in_order.Statement.{statement}
 use Rattle.segment.proofs.in_order.Tie as tie
 
-abbrev good : List ℕ → List ℕ → ℕ → Bool
-good m s n = eqb (segmentRefusal m s n .number) 0
-
 abbrev Inv-loop : tie.InvT-loop
-Inv-loop m layout metric starts s keys tables i₀ n₀ i n = (i ≤ length keys) × (n ≤ layout .segments) × Held m keys i n × Reached (good m s) (segmentsOf m) n
+Inv-loop m layout metric starts s keys tables i₀ n₀ i n = (i ≤ length keys) × (n ≤ layout .segments) × Held m keys i n × Reached (passes (segmentRefusal m s)) (segmentsOf m) n
 
 abbrev μ-loop : tie.MeasureT-loop
 μ-loop m layout metric starts s keys tables i₀ n₀ i n = layout .segments - n
@@ -46,16 +41,13 @@ said : (c : tie.After-rows-refusal Inv-loop μ-loop)
 said c = c .rows-refusal .ensures ∙ rw (part (c .before .before .before) .rows)
 
 returns : tie.Need-returns Inv-loop μ-loop
-unfolding inOrder
 returns c =
     let d = c .before .before in
     let L = c .before .before .before .before .before .before .before .before .before .loop in
     let b = c .before .before .before .before .before .before .before .before .before .before .before .before .before .before in
     let m = b .args .m .now in
-    let s = b .args .s .now in
     let h : L .n < segmentsOf m = rw (b .pre .0 .segments) at (c .before .before .before .before .before .before .before .if1 .taken) in
-    let e = reached-stop h (ne-eqb (segmentRefusal m s (L .n) .number) 0 (rw (said d) at (c .if2 .taken))) (L .inv .3) in
-    said d ∙ rw (← e, ne-eqb (L .n) (segmentsOf m) (λ q. omega (arith, h, q)))
+    said d ∙ refusal-stop (segmentRefusal m (b .args .s .now)) (segmentsOf m) h (rw (said d) at (c .if2 .taken)) (L .inv .3)
 
 again : tie.Need-loop-again Inv-loop μ-loop
 again c =
@@ -69,14 +61,11 @@ again c =
     (r .ends, search needs, r .next, reached-turn h (eq-eqb (segmentRefusal m s (L .n) .number) 0 (rw (said d) at (c .if2 .left))) (L .inv .3))
 
 returns-2 : tie.Need-returns-2 Inv-loop μ-loop
-unfolding inOrder
 returns-2 c =
     let L = c .before .before .loop in
     let b = c .before .before .before .before .before .before .before in
     let m = b .args .m .now in
-    let e = reached-end (rw (b .pre .0 .segments) at (c .if1 .left)) (L .inv .3) in
-    let q : L .n ≡ segmentsOf m = omega (arith, L .inv .1, c .if1 .left, b .pre .0 .segments) in
-    rw (← e, eq-eqb (L .n) (segmentsOf m) q)
+    refusal-end (segmentRefusal m (b .args .s .now)) (segmentsOf m) (rw (b .pre .0 .segments) at (c .if1 .left)) (rw (b .pre .0 .segments) at (L .inv .1)) (L .inv .3)
 
 pub in-order-spec : {M : Type 1} → statement M
 in-order-spec =
@@ -86,7 +75,7 @@ in-order-spec =
     μ-loop
     (λ c κs. search needs)
     (λ c. let b = c .before .before .before .before in
-    (search needs, search needs, held-start (b .args .m .now) (b .pre .2) (b .pre .0 .most) (b .args .keys .now) (b .pre .4), reached-start (good (b .args .m .now) (b .args .s .now)) (segmentsOf (b .args .m .now))))
+    (search needs, search needs, held-start (b .args .m .now) (b .pre .2) (b .pre .0 .most) (b .args .keys .now) (b .pre .4), reached-start (passes (segmentRefusal (b .args .m .now) (b .args .s .now))) (segmentsOf (b .args .m .now))))
     (λ c. search needs)
     (λ c. search needs)
     (λ c. search needs)

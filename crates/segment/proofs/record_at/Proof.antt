@@ -5,7 +5,7 @@ use lib.ListN.{getD}
 use Rattle.format.specs.Fields.{segmentAt, offsetAt}
 use Rattle.format.proofs.Entries.{Entered, entered-by}
 use Rattle.segment.specs.Record.{startOf, recordAt}
-use Rattle.segment.proofs.Places.{start-bound}
+use Rattle.segment.proofs.Places.{start-bound, start-at}
 use Rattle.segment.proofs.record_at.Statement.{statement}
 use Rattle.segment.proofs.record_at.Tie as tie
 
@@ -21,7 +21,7 @@ start-is : (c : tie.After-wide2)
     getD (a .starts .now) (c .before .before .wide .result) 0 ≡ startOf (a .m .now) (segmentAt (a .m .now) (a .row))
 start-is c =
     let b = c .before .before .before .before .before in
-    rw (segment-is (c .before .before)) (b .pre .2 .at (segmentAt (b .args .m .now) (b .args .row)) (let h = rules (c .before .before .before) .segment in omega (arith, h)))
+    rw (segment-is (c .before .before)) (start-at (b .args .m .now) (b .pre .2) (segmentAt (b .args .m .now) (b .args .row)) (let h = rules (c .before .before .before) .segment in omega (arith, h)))
 
 offset-is : (c : tie.After-wide2) → let a = c .before .before .before .before .before .args in c .wide2 .result ≡ offsetAt (a .m .now) (a .row)
 offset-is c = c .wide2 .ensures ∙ rw (c .before .before .before .read-entry .ensures)

@@ -6,7 +6,7 @@ use lib.ListN.{length}
 use borrow.Author.Tests.{le-leb, lt-leb}
 use Rattle.format.specs.Fields.{metadataAt, recordLength}
 use Rattle.segment.specs.Record.{recordAt, recordOk}
-use Rattle.segment.proofs.Places.{record-within, all-bound}
+use Rattle.segment.proofs.Places.{record-bound}
 use Rattle.segment.proofs.record_holds.Statement.{statement}
 use Rattle.segment.proofs.record_holds.Tie as tie
 
@@ -20,9 +20,7 @@ read c =
     let m = b .args .m .now in
     let r = b .args .row in
     let e : c .before .wide .result ≡ metadataAt m r = c .before .wide .ensures ∙ rw (c .before .before .before .read-entry .ensures) in
-    let w = record-within m (b .pre .2) r (b .pre .5) in
-    let q = all-bound m (b .pre .2) in
-    (e, omega (arith, e, c .before .before .record-at .ensures, b .pre .0 .dimensions), omega (arith, w, q, b .pre .0 .few))
+    (e, omega (arith, e, c .before .before .record-at .ensures, b .pre .0 .dimensions), record-bound (b .pre .0) (b .pre .2) r (b .pre .5))
 
 returns : tie.Need-returns
 unfolding recordOk

@@ -4,10 +4,10 @@ use mathlib.Core.Path.{_≡_, ap, _∙_}
 use lib.ListN.{length, getD}
 use borrow.Author.Tests.{eq-eqb, ne-eqb}
 use Rattle.format.specs.Fields.{segmentsOf}
-use Rattle.format.proofs.Heads.{bounds}
 use Rattle.format.proofs.Entries.{lengths-of}
 use Rattle.segment.specs.Record.{startOf}
 use Rattle.segment.specs.Check.{segmentsRefusal}
+use Rattle.segment.proofs.Places.{start-at}
 use Rattle.segment.proofs.segments_refusal.Statement.{statement}
 use Rattle.segment.proofs.segments_refusal.Tie as tie
 
@@ -15,7 +15,7 @@ use Rattle.segment.proofs.segments_refusal.Tie as tie
 end : (c : tie.After-starts) → let m = c .before .before .before .before .before .args .m .now in getD (c .starts .result) (c .before .read-layout .result .segments) 0 ≡ startOf m (segmentsOf m)
 end c =
     let m = c .before .before .before .before .before .args .m .now in
-    ap (λ n. getD (c .starts .result) n 0) (c .before .read-layout .ensures .segments) ∙ c .starts .ensures .at (segmentsOf m) (omega arith)
+    ap (λ n. getD (c .starts .result) n 0) (c .before .read-layout .ensures .segments) ∙ start-at m (c .starts .ensures) (segmentsOf m) (omega arith)
 
 returns : tie.Need-returns
 unfolding segmentsRefusal
@@ -36,6 +36,6 @@ segments-refusal-spec = tie.close (tie.spec
     (λ c. search needs)
     (λ c. let l = c .before .read-layout .ensures in omega (arith, l .segments, l .few))
     returns
-    (λ c κs. let b = c .before .before .before .before .before .before in bounds (b .args .m .now) (b .pre .0) .long)
+    (λ c κs. c .before .before .read-layout .ensures .long)
     (λ c κs. let b = c .before .before .before .before .before .before .before .before in (c .before .before .before .before .read-layout .ensures, c .before .metric .ensures, b .pre .1, c .before .before .before .starts .ensures, b .pre .2, rw (end (c .before .before .before)) at (c .before .before .if1 .left)))
     returns-2)
