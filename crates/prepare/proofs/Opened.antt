@@ -13,6 +13,7 @@ use lib.Ieee.{binary64, toBits}
 use lib.ListN.{length, take, drop, length-append}
 use lib.Seq.{take-at}
 use borrow.Author.Tests.{eq-eqb}
+use lib.Dec.{lit≤}
 use Rattle.le.specs.Le.{bytes}
 use Rattle.le.proofs.LeLaws.{AllBytes, length-bytes, bytes-all, append-bytes, take-bytes, drop-bytes}
 use Rattle.crc32.specs.Crc.{crc32}
@@ -23,9 +24,9 @@ use Rattle.config.specs.Vector.{floatsAt}
 use Rattle.config.proofs.Vectors.{length-floats}
 use Rattle.codes.specs.Codes.{within}
 use Rattle.quantization.specs.View.{rowBytes, rowAt, validRow}
-use Rattle.quantization.specs.Encoder.{encode, midpoints}
+use Rattle.quantization.specs.Encoder.{baseLevels, encode, midpoints}
 use Rattle.quantization.proofs.Codes.{within-cons}
-use Rattle.quantization.proofs.Encoded.{written-reads, codes-within}
+use Rattle.quantization.proofs.Encoded.{written-reads, codes-within, base, base-count, base-table}
 use Rattle.format.specs.Fields.{dimensionsOf, rowsOf, metricAt}
 use Rattle.format.proofs.Heads.{bounds}
 use Rattle.format.proofs.First.{all-pass}
@@ -51,11 +52,11 @@ use Rattle.prepare.proofs.Stored.{length-rows, ready}
 module _ (m s : List ℕ) where
   -- a row between other bytes is read as the encoder's own
   row-read : (r : ℕ) (p q : List ℕ) → dimensionsOf m ≤ 4096
-      → rowAt (dimensionsOf m) (p ++ rowBytes (rowOf 127 midpoints m s r) ++ q) (length p) ≡ rowOf 127 midpoints m s r
+      → rowAt (dimensionsOf m) (p ++ rowBytes (rowOf baseLevels midpoints m s r) ++ q) (length p) ≡ rowOf baseLevels midpoints m s r
   row-read r p q h =
       let v = floatsAt (dimensionsOf m) s (recordAt m r + 12) in
       let l = length-floats (dimensionsOf m) s (recordAt m r + 12) in
-      ap (λ (n : ℕ). rowAt n (p ++ rowBytes (encode 127 midpoints v) ++ q) (length p)) (sym l) ∙ written-reads v p q (rw l h)
+      ap (λ (n : ℕ). rowAt n (p ++ rowBytes (encode baseLevels midpoints v) ++ q) (length p)) (sym l) ∙ written-reads baseLevels midpoints base-count v (lit≤ tt) p q (rw l h)
 
   -- where row n of a cache with a front and a CRC-32 of 4 bytes starts
   start-is : (front n : ℕ) → n ≤ rowsOf m
@@ -73,26 +74,26 @@ module _ (m s : List ℕ) where
 
   -- a front, the rows and 4 bytes: row n is the encoder's own
   rows-read : (front t : List ℕ) → length t ≡ 4 → dimensionsOf m ≤ 4096 → (n : ℕ) → n < rowsOf m
-      → cachedAt (rowsOf m) (dimensionsOf m) (front ++ rowsBytes 127 midpoints m s (rowsOf m) ++ t) n ≡ rowOf 127 midpoints m s n
+      → cachedAt (rowsOf m) (dimensionsOf m) (front ++ rowsBytes baseLevels midpoints m s (rowsOf m) ++ t) n ≡ rowOf baseLevels midpoints m s n
   rows-read front t e h n i =
-      let cache = front ++ rowsBytes 127 midpoints m s (rowsOf m) ++ t in
+      let cache = front ++ rowsBytes baseLevels midpoints m s (rowsOf m) ++ t in
       let k = length-rows m s (rowsOf m) in
       let l : length cache ≡ length front + rowsOf m * rowLength (dimensionsOf m) + 4 = simp length-append (omega (arith, k, e)) in
-      let r = rest-of (λ j. rowBytes (rowOf 127 midpoints m s j)) (rowsOf m) n i in
-      let p = front ++ rowsBytes 127 midpoints m s n in
-      let c : cache ≡ p ++ rowBytes (rowOf 127 midpoints m s n) ++ (r .rest ++ t) = rw (r .is) (simp append-assoc) in
+      let r = rest-of (λ j. rowBytes (rowOf baseLevels midpoints m s j)) (rowsOf m) n i in
+      let p = front ++ rowsBytes baseLevels midpoints m s n in
+      let c : cache ≡ p ++ rowBytes (rowOf baseLevels midpoints m s n) ++ (r .rest ++ t) = rw (r .is) (simp append-assoc) in
       let a : rowStart (length cache) (rowsOf m) (dimensionsOf m) n ≡ length p =
       ap (λ (z : ℕ). rowStart z (rowsOf m) (dimensionsOf m) n) l ∙ start-is (length front) n (omega (arith, i))
-      ∙ sym (length-append front (rowsBytes 127 midpoints m s n) ∙ ap (λ (z : ℕ). length front + z) (length-rows m s n)) in
+      ∙ sym (length-append front (rowsBytes baseLevels midpoints m s n) ∙ ap (λ (z : ℕ). length front + z) (length-rows m s n)) in
       ap (λ (z : ℕ). rowAt (dimensionsOf m) cache z) a ∙ ap (λ (x : List ℕ). rowAt (dimensionsOf m) x (length p)) c ∙ row-read n p (r .rest ++ t) h
 
   -- and where no record is bad, every row is valid
   rows-hold : (front t : List ℕ) → length t ≡ 4 → dimensionsOf m ≤ 4096 → lowestBad m s ≡ rowsOf m
-      → badRow (metricAt m) (rowsOf m) (dimensionsOf m) (front ++ rowsBytes 127 midpoints m s (rowsOf m) ++ t) ≡ rowsOf m
+      → badRow baseLevels (metricAt m) (rowsOf m) (dimensionsOf m) (front ++ rowsBytes baseLevels midpoints m s (rowsOf m) ++ t) ≡ rowsOf m
   unfolding cachedOk
   rows-hold front t e h b =
-      all-pass (cachedOk (metricAt m) (rowsOf m) (dimensionsOf m) (front ++ rowsBytes 127 midpoints m s (rowsOf m) ++ t)) (rowsOf m)
-      (λ n i. ap (validRow 127 (metricAt m)) (rows-read front t e h n i) ∙ rows-valid m s b n i)
+      all-pass (cachedOk baseLevels (metricAt m) (rowsOf m) (dimensionsOf m) (front ++ rowsBytes baseLevels midpoints m s (rowsOf m) ++ t)) (rowsOf m)
+      (λ n i. ap (validRow baseLevels (metricAt m)) (rows-read front t e h n i) ∙ rows-valid m s base base-table b n i)
 
 -- ---- all are bytes
 
@@ -100,24 +101,24 @@ code-byte : (z : ℤ) → natAbs z ≤ 127 → ofZ w8 z < 256
 code-byte (pos n) h = omega arith
 code-byte (negsuc n) h = omega arith
 
-codes-bytes : (cs : List ℤ) → within 127 cs ≡ true → AllBytes (map (ofZ w8) cs)
+codes-bytes : (cs : List ℤ) → within baseLevels cs ≡ true → AllBytes (map (ofZ w8) cs)
 codes-bytes [] h = tt
 codes-bytes (z ∷ cs) h = let k = within-cons 127 z cs h in (code-byte z (k .0), codes-bytes cs (k .1))
 
-row-bytes : (m s : List ℕ) (r : ℕ) → AllBytes (rowBytes (rowOf 127 midpoints m s r))
+row-bytes : (m s : List ℕ) (r : ℕ) → AllBytes (rowBytes (rowOf baseLevels midpoints m s r))
 unfolding rowBytes
 row-bytes m s r =
     let v = floatsAt (dimensionsOf m) s (recordAt m r + 12) in
-    let e = encode 127 midpoints v in
+    let e = encode baseLevels midpoints v in
     let a = bytes-all 8 (toBits binary64 (e .scale)) in
     let b = bytes-all 8 (ofZ w64 (e .norm)) in
     append-bytes (bytes 8 (toBits binary64 (e .scale)) ++ bytes 8 (ofZ w64 (e .norm))) (map (ofZ w8) (e .codes)) (append-bytes (bytes 8 (toBits binary64 (e .scale))) (bytes 8 (ofZ w64 (e .norm))) a b)
-    (codes-bytes (e .codes) (codes-within v))
+    (codes-bytes (e .codes) (codes-within baseLevels midpoints base-count v))
 
-rows-bytes : (m s : List ℕ) (n : ℕ) → AllBytes (rowsBytes 127 midpoints m s n)
+rows-bytes : (m s : List ℕ) (n : ℕ) → AllBytes (rowsBytes baseLevels midpoints m s n)
 unfolding joined
 rows-bytes m s zero = tt
-rows-bytes m s (suc n) = append-bytes (rowsBytes 127 midpoints m s n) (rowBytes (rowOf 127 midpoints m s n)) (rows-bytes m s n) (row-bytes m s n)
+rows-bytes m s (suc n) = append-bytes (rowsBytes baseLevels midpoints m s n) (rowBytes (rowOf baseLevels midpoints m s n)) (rows-bytes m s n) (row-bytes m s n)
 
 counted-bytes : (s : List ℕ) → AllBytes s → AllBytes (counted s)
 unfolding counted
@@ -142,7 +143,7 @@ head-bytes version i h = append-bytes (cacheMagic ++ bytes 4 version) (counted i
 module _ (m : List ℕ) (expected room : ℕ) (s platform root : List ℕ) (o : Options) (lent : ℕ)
     (h : prepareRefusal m expected room s platform root o lent .number ≡ 0) where
   abbrev content : List ℕ
-  content = cacheHead 1 (identity platform root m) ++ rowsBytes 127 midpoints m s (rowsOf m)
+  content = cacheHead 1 (identity platform root m) ++ rowsBytes baseLevels midpoints m s (rowsOf m)
 
   parts : cacheOf m s platform root ≡ content ++ bytes 4 (crc32 content)
   unfolding cacheOf cacheBytes
@@ -155,7 +156,7 @@ module _ (m : List ℕ) (expected room : ℕ) (s platform root : List ℕ) (o : 
       let b = bounds m (ready m expected room s platform root o lent h .library .manifest .head) in
       let l = length-identity platform root m (omega (arith, b .long)) in
       let k = length-rows m s (rowsOf m) in
-      let c = length-cache 1 (identity platform root m) (rowsBytes 127 midpoints m s (rowsOf m)) in
+      let c = length-cache 1 (identity platform root m) (rowsBytes baseLevels midpoints m s (rowsOf m)) in
       omega (arith, l, k, c)
 
   -- whatever scratch of at least rows elements is lent
@@ -172,7 +173,7 @@ module _ (m : List ℕ) (expected room : ℕ) (s platform root : List ℕ) (o : 
       let b = bounds m (r .library .manifest .head) in
       let z = sizing-in m platform root o (r .library .sizing) in
       let i = identity platform root m in
-      let rows = rowsBytes 127 midpoints m s (rowsOf m) in
+      let rows = rowsBytes baseLevels midpoints m s (rowsOf m) in
       let l = length-identity platform root m (omega (arith, b .long)) in
       let front : take (16 + length i) (cacheOf m s platform root) ≡ cacheHead 1 i =
       ap (take (16 + length i)) (parts ∙ append-assoc (cacheHead 1 i) rows (bytes 4 (crc32 content)))
@@ -180,14 +181,14 @@ module _ (m : List ℕ) (expected room : ℕ) (s platform root : List ℕ) (o : 
       rw (eq-eqb (sizeNumber m expected other platform root o) 0 (sized-again other f))
       (head-opens 1 (sizeOf m platform root) i (cacheOf m s platform root) (omega arith) (omega (arith, l, z .platform-short, z .root-short, b .short)) (omega (arith, l)) cache-long front)
 
-  rows-pass : AllBytes content → contentRefusal (metricAt m) (rowsOf m) (dimensionsOf m) (cacheOf m s platform root) ≡ none
+  rows-pass : AllBytes content → contentRefusal baseLevels (metricAt m) (rowsOf m) (dimensionsOf m) (cacheOf m s platform root) ≡ none
   unfolding contentRefusal
   rows-pass a =
       let r = ready m expected room s platform root o lent h in
       let b = bounds m (r .library .manifest .head) in
       let t = bytes 4 (crc32 content) in
       let v = rows-hold m s (cacheHead 1 (identity platform root m)) t (length-bytes 4 (crc32 content)) (b .high) (r .records) in
-      rw (parts, eq-eqb (badRow (metricAt m) (rowsOf m) (dimensionsOf m) (content ++ t)) (rowsOf m) v, ends-in-crc content a)
+      rw (parts, eq-eqb (badRow baseLevels (metricAt m) (rowsOf m) (dimensionsOf m) (content ++ t)) (rowsOf m) v, ends-in-crc content a)
 
   -- document 01, Contracts: against "an opener refusing every cache" and "preparation that stores nothing"
   pub prepared-opens : AllBytes m → AllBytes platform → AllBytes root → (other : ℕ) → rowsOf m ≤ other
@@ -195,8 +196,8 @@ module _ (m : List ℕ) (expected room : ℕ) (s platform root : List ℕ) (o : 
   unfolding openRefusal
   prepared-opens a p r other f =
       let i = identity platform root m in
-      let b = append-bytes (cacheHead 1 i) (rowsBytes 127 midpoints m s (rowsOf m)) (head-bytes 1 i (identity-bytes platform root m p r a)) (rows-bytes m s (rowsOf m)) in
-      goes-on (openNumber m expected other (cacheOf m s platform root) platform root o) (contentRefusal (metricAt m) (rowsOf m) (dimensionsOf m) (cacheOf m s platform root)) (number other f) ∙ rows-pass b
+      let b = append-bytes (cacheHead 1 i) (rowsBytes baseLevels midpoints m s (rowsOf m)) (head-bytes 1 i (identity-bytes platform root m p r a)) (rows-bytes m s (rowsOf m)) in
+      goes-on (openNumber m expected other (cacheOf m s platform root) platform root o) (contentRefusal baseLevels (metricAt m) (rowsOf m) (dimensionsOf m) (cacheOf m s platform root)) (number other f) ∙ rows-pass b
 
   -- the slice of the cache's size, as preparing leaves it
   pub prepared-slice : (d : List ℕ) → take (sizeOf m platform root) (cacheAfter m s platform root (prepareRefusal m expected room s platform root o lent) d) ≡ cacheOf m s platform root
@@ -207,7 +208,7 @@ module _ (m : List ℕ) (expected room : ℕ) (s platform root : List ℕ) (o : 
 
   -- and its rows are the encoder's own
   pub prepared-rows : (n : ℕ) → n < rowsOf m
-      → cachedAt (rowsOf m) (dimensionsOf m) (cacheOf m s platform root) n ≡ rowOf 127 midpoints m s n
+      → cachedAt (rowsOf m) (dimensionsOf m) (cacheOf m s platform root) n ≡ rowOf baseLevels midpoints m s n
   prepared-rows n i =
       let b = bounds m (ready m expected room s platform root o lent h .library .manifest .head) in
       rw parts (rows-read m s (cacheHead 1 (identity platform root m)) (bytes 4 (crc32 content)) (length-bytes 4 (crc32 content)) (b .high) n i)
@@ -216,6 +217,15 @@ module _ (m : List ℕ) (expected room : ℕ) (s platform root : List ℕ) (o : 
   pub prepared-opened : AllBytes m → AllBytes platform → AllBytes root → (other : ℕ) → rowsOf m ≤ other → (d : List ℕ)
       → let cache = take (sizeOf m platform root) (cacheAfter m s platform root (prepareRefusal m expected room s platform root o lent) d) in
       (opened m expected other cache platform root o ≡ record { refusal = none; state = stateOf m cache })
-      × ((n : ℕ) → n < rowsOf m → cachedAt (rowsOf m) (dimensionsOf m) cache n ≡ rowOf 127 midpoints m s n)
+      × ((n : ℕ) → n < rowsOf m → cachedAt (rowsOf m) (dimensionsOf m) cache n ≡ rowOf baseLevels midpoints m s n)
   unfolding openedBy
   prepared-opened a p r other f d = rw (prepared-slice d, prepared-opens a p r other f) (refl, prepared-rows)
+
+  -- and each of its rows passes the row test
+  pub prepared-valid : (d : List ℕ)
+      → let cache = take (sizeOf m platform root) (cacheAfter m s platform root (prepareRefusal m expected room s platform root o lent) d) in
+      (length cache ≡ sizeOf m platform root) × ((n : ℕ) → n < rowsOf m → cachedOk baseLevels (metricAt m) (rowsOf m) (dimensionsOf m) cache n ≡ true)
+  unfolding cachedOk
+  prepared-valid d =
+      rw (prepared-slice d)
+      (cache-long, λ n i. ap (validRow baseLevels (metricAt m)) (prepared-rows n i) ∙ rows-valid m s base base-table (ready m expected room s platform root o lent h .records) n i)

@@ -11,9 +11,9 @@ use Rattle.le.specs.Le.{bytes, paste}
 use Rattle.le.proofs.LeLaws.{length-bytes}
 use Rattle.le.proofs.Pastes.{paste-first, paste-next}
 use Rattle.crc32.specs.Crc.{crc32}
-use Rattle.config.specs.Refusal.{refused}
-use Rattle.config.proofs.Refusals.{not-zero, held-number, goes-on, stops, none-refused, is-other}
-use Rattle.quantization.specs.Encoder.{midpoints}
+use Rattle.config.specs.Refusal.{refused, refusedOr}
+use Rattle.config.proofs.Refusals.{not-zero, held-number, goes-on, stops, none-refused, is-other, Plain, plain-or}
+use Rattle.quantization.specs.Encoder.{baseLevels, midpoints}
 use Rattle.format.specs.Fields.{rowsOf, dimensionsOf}
 use Rattle.geometry.specs.Cache.{identity, identityLength, cacheHead, cacheBytes}
 use Rattle.geometry.proofs.Parts.{length-identity, length-head}
@@ -24,7 +24,7 @@ use Rattle.geometry.specs.declared.Options.{Options}
 use Rattle.quantized_cache.proofs.Sizes.{Passed}
 use Rattle.quantization.specs.View.{rowBytes}
 use Rattle.rows.specs.Rows.{rowOf, rowsBytes, badRow, recordsRefusal}
-use Rattle.rows.proofs.Written.{length-own, none-bad}
+use Rattle.rows.proofs.Written.{length-own, none-bad, records-plain}
 use Rattle.rows.proofs.Joined.{length-joined}
 use Rattle.prepare.specs.Prepare.{lateRefusal, acceptedRefusal, prepareRefusal, cacheOf, cacheAfter, infoOf, noInfo, preparedBy}
 
@@ -35,15 +35,15 @@ late-passed m s size room h =
     let a = held-number (leb size room) (recordsRefusal m s) (refused 11 0) not-zero h in
     (leb-true size room (a .0), none-bad m s (a .1))
 
-pub length-rows : (m s : List ℕ) (n : ℕ) → length (rowsBytes 127 midpoints m s n) ≡ n * (dimensionsOf m + 16)
-length-rows m s n = length-joined (λ r. rowBytes (rowOf 127 midpoints m s r)) (dimensionsOf m + 16) (length-own m s) n
+pub length-rows : (m s : List ℕ) (n : ℕ) → length (rowsBytes baseLevels midpoints m s n) ≡ n * (dimensionsOf m + 16)
+length-rows m s n = length-joined (λ r. rowBytes (rowOf baseLevels midpoints m s r)) (dimensionsOf m + 16) (length-own baseLevels midpoints m s) n
 
 module _ (m s platform root : List ℕ) where
   abbrev head : List ℕ
   head = cacheHead 1 (identity platform root m)
 
   abbrev rows : List ℕ
-  rows = rowsBytes 127 midpoints m s (rowsOf m)
+  rows = rowsBytes baseLevels midpoints m s (rowsOf m)
 
   -- the place of the rows, and of the CRC-32
   pub record Stores (at size room : ℕ) : Type 0 where
@@ -122,3 +122,16 @@ ready m expected room s platform root o lent h =
     let k = none-refused (sizingOf m platform root o) (lateRefusal m s (sizeOf m platform root) lent) (n .1) in
     let l = late-passed m s (sizeOf m platform root) lent (k .1) in
     record { number = n .0; library = record { manifest = accepted m expected room (n .0) .0; sizing = k .0 }; fits = l .0; records = l .1 }
+
+-- number 0 is no refusal
+late-plain : (m s : List ℕ) (size room : ℕ) → Plain (lateRefusal m s size room)
+unfolding lateRefusal
+late-plain m s size room h =
+    let a = held-number (leb size room) (recordsRefusal m s) (refused 11 0) not-zero h in
+    rw (a .0) (records-plain m s (a .1))
+
+pub prepared-none : (m : List ℕ) (expected room : ℕ) (s platform root : List ℕ) (o : Options) (lent : ℕ) → Plain (prepareRefusal m expected room s platform root o lent)
+unfolding prepareRefusal acceptedRefusal
+prepared-none m expected room s platform root o lent =
+    plain-or (manifestNumber m expected room) (refusedOr (sizingOf m platform root o) (lateRefusal m s (sizeOf m platform root) lent))
+    (plain-or (sizingOf m platform root o) (lateRefusal m s (sizeOf m platform root) lent) (late-plain m s (sizeOf m platform root) lent))

@@ -4,7 +4,7 @@ ghost use mathlib.Core.Bool.{true};
 ghost use mathlib.Core.List.{_++_};
 ghost use Prim.Native.Nat.{_+_, _*_, _≤_};
 ghost use lib.ListN.{length, take, drop};
-ghost use Rattle.quantization.specs.Encoder.{midpoints};
+ghost use Rattle.quantization.specs.Encoder.{baseLevels, midpoints};
 ghost use Rattle.format.specs.Fields.{rowsOf, dimensionsOf};
 ghost use Rattle.format.specs.Head.{headNumber};
 ghost use Rattle.format.specs.Plan.{rowsOk};
@@ -60,13 +60,14 @@ fn put_crc(cache: &mut [u8], end: usize)
 
 fn store_rows(m: &[u8], s: &[u8], cache: &mut [u8], at: usize)
     requires { ⌜ (headNumber (now m) ≡ 0) × (rowsOk (now m) ≡ true) × (badRow (now m) (now s) ≡ rowsOf (now m)) × (at + rowsOf (now m) * rowLength (dimensionsOf (now m)) ≤ length (now cache)) ⌝ }
-    ensures { λ r. ⌜ now (cache .exit) ≡ paste (now (cache .entry)) at (rowsBytes 127 midpoints (now (m .entry)) (now (s .entry)) (rowsOf (now (m .entry)))) ⌝ }
+    ensures { λ r. ⌜ now (cache .exit) ≡ paste (now (cache .entry)) at (rowsBytes baseLevels midpoints (now (m .entry)) (now (s .entry)) (rowsOf (now (m .entry)))) ⌝ }
 {
     let layout = format::read_layout(m);
     let starts = segment::starts(m, layout);
     let t = quantization::midpoints_table();
     let row = geometry::row_length(layout.dimensions);
-    rows::put_rows(m, layout, &starts, &t, s, cache, at, row);
+    let levels = quantization::BASE_LEVELS;
+    rows::put_rows(m, layout, &starts, &t, levels, s, cache, at, row);
 }
 
 // Head, rows, CRC-32.
@@ -195,6 +196,6 @@ pub fn prepare(
         options,
         cache,
     );
-    manifest::clear(scratch);
+    le::clear(scratch);
     prepared
 }

@@ -1,17 +1,14 @@
 -- Where the rows of a cache lie, and what the tests before them say. Assumes nothing.
 use mathlib.Core.Path.{_≡_}
-use mathlib.Core.Bool.{Bool}
 use mathlib.Core.List.{List}
 use Prim.Native.Nat.{ℕ, suc, _+_, _-_, _*_, _≤_, _<_}
 use native.Mathlib.Nat.{suc-mul, mul-le-mul}
 use native.Mathlib.Omega.{arith}
-use lib.IntN.{ℤ}
-use lib.Ieee.{Float}
 use lib.ListN.{length}
 use Rattle.le.proofs.Chain.{held}
 use Rattle.config.specs.declared.Metric.{Metric}
-use Rattle.codes.specs.Codes.{squares, within}
-use Rattle.quantization.specs.View.{rowAt, rowTest, validRow}
+use Rattle.codes.specs.Codes.{within}
+use Rattle.quantization.specs.View.{rowAt, validRow}
 use Rattle.format.specs.Fields.{dimensionsOf, rowsOf}
 use Rattle.config.proofs.Refusals.{not-zero}
 use Rattle.manifest.proofs.Passed.{or-else}
@@ -20,7 +17,7 @@ use Rattle.geometry.specs.Open.{headOk, openNumber as cacheHeadNumber}
 use Rattle.geometry.specs.declared.Options.{Options}
 use Rattle.geometry.proofs.Opens.{head-long}
 use Rattle.quantized_cache.specs.Size.{sizeOf, sizeNumber}
-use Rattle.quantized_cache.specs.Open.{rowStart, cachedOk, openNumber}
+use Rattle.quantized_cache.specs.Open.{rowStart, RoomFor, cachedOk, openNumber}
 use Rattle.quantized_cache.proofs.Sizes.{Passed, passed}
 
 -- row n of a cache with room for all rows: the next starts where it ends, and it ends before the CRC-32
@@ -28,7 +25,7 @@ pub record Lies (size rows dimensions n : ℕ) : Type 0 where
   pub next : rowStart size rows dimensions n + rowLength dimensions ≡ rowStart size rows dimensions (n + 1)
   pub within : rowStart size rows dimensions n + rowLength dimensions + 4 ≤ size
 
-pub lies : (size rows dimensions n : ℕ) → rows * rowLength dimensions + 4 ≤ size → n < rows → Lies size rows dimensions n
+pub lies : (size rows dimensions n : ℕ) → RoomFor size rows dimensions → n < rows → Lies size rows dimensions n
 lies size rows dimensions n h l =
     let e : rows - n ≡ suc (rows - (n + 1)) = omega arith in
     let k : (rows - n) * rowLength dimensions ≡ (rows - (n + 1)) * rowLength dimensions + rowLength dimensions =
@@ -41,22 +38,16 @@ lies size rows dimensions n h l =
 pub first-start : (size rows dimensions : ℕ) → size - 4 - rows * rowLength dimensions ≡ rowStart size rows dimensions 0
 first-start size rows dimensions = let e : rows - 0 ≡ rows = omega arith in rw e
 
-pub ok-at : (metric : Metric) (rows dimensions : ℕ) (cache : List ℕ) (n : ℕ) {at : ℕ} → at ≡ rowStart (length cache) rows dimensions n
-    → validRow 127 metric (rowAt dimensions cache at) ≡ cachedOk metric rows dimensions cache n
+pub ok-at : (levels : ℕ) (metric : Metric) (rows dimensions : ℕ) (cache : List ℕ) (n : ℕ) {at : ℕ} → at ≡ rowStart (length cache) rows dimensions n
+    → validRow levels metric (rowAt dimensions cache at) ≡ cachedOk levels metric rows dimensions cache n
 unfolding cachedOk
-ok-at metric rows dimensions cache n e = rw e
-
--- the row test, from the sums over a row's codes and of its view
-pub as-view : (metric : Metric) {s t : Float} {n m : ℤ} {w : ℕ} {b : Bool} (xs : List ℤ) → t ≡ s → m ≡ n → w ≡ squares xs → b ≡ within 127 xs
-    → rowTest metric t m w b ≡ validRow 127 metric (record { scale = s; norm = n; codes = xs })
-unfolding validRow
-as-view metric xs e f g h = rw (e, f, g, h)
+ok-at levels metric rows dimensions cache n e = rw e
 
 -- a cache that passes the tests before the rows has the library's size
 pub record HeadPassed (m : List ℕ) (expected room : ℕ) (cache platform root : List ℕ) (o : Options) : Type 0 where
   pub library : Passed m expected room platform root o
   pub size : length cache ≡ sizeOf m platform root
-  pub rows : rowsOf m * rowLength (dimensionsOf m) + 4 ≤ length cache
+  pub rows : RoomFor (length cache) (rowsOf m) (dimensionsOf m)
 
 pub head-passed : (m : List ℕ) (expected room : ℕ) (cache platform root : List ℕ) (o : Options) → openNumber m expected room cache platform root o ≡ 0
     → HeadPassed m expected room cache platform root o

@@ -1,15 +1,15 @@
 // A cache of quantized rows: quantized_cache.rs's sizing and `CachedQuantizedSnapshot::open`, over lent slices.
 ghost use mathlib.Core.Path.{_≡_};
-ghost use Prim.Native.Nat.{_+_, _*_, _≤_};
+ghost use Prim.Native.Nat.{_≤_};
 ghost use lib.ListN.{length};
-ghost use Rattle.quantization.specs.View.{rowAt, validRow};
+ghost use Rattle.quantization.specs.Encoder.{Levels, baseLevels};
 ghost use Rattle.format.specs.Fields.{dimensionsOf, rowsOf, metricAt};
 ghost use Rattle.format.specs.Head.{headNumber};
 ghost use Rattle.manifest.specs.Check.{scratchAfter};
-ghost use Rattle.geometry.specs.Cache.{identity as identityOf, rowLength};
+ghost use Rattle.geometry.specs.Cache.{identity as identityOf};
 ghost use Rattle.geometry.specs.Open.{openNumber as headOpens};
 ghost use Rattle.quantized_cache.specs.Size.{sizingOf, sizeOf, sizeNumber, sized};
-ghost use Rattle.quantized_cache.specs.Open.{badRow, contentRefusal, openNumber, openedBy, opened};
+ghost use Rattle.quantized_cache.specs.Open.{rowStart, RoomFor, badRow, contentRefusal, openNumber, cacheLengthOk, openedBy, opened};
 use config::Metric;
 use config::Refusal;
 use format::Head;
@@ -66,7 +66,7 @@ fn accept(
     if number != 0 {
         return number;
     }
-    manifest::clear(scratch);
+    le::clear(scratch);
     sizing(m, platform, root, options)
 }
 
@@ -109,27 +109,24 @@ pub fn size(
 
 // ---- Opening.
 
-// The row test, of the row of n codes at a place of a cache.
-fn row_holds(metric: Metric, cache: &[u8], at: usize, n: usize) -> bool
-    requires { ⌜ (at + 16 + n ≤ length (now cache)) × (n ≤ 4096) ⌝ }
-    ensures { λ r. ⌜ r ≡ validRow 127 metric (rowAt n (now (cache .entry)) at) ⌝ }
+// Where the rows of a cache of some length begin.
+pub fn rows_at(length: usize, rows: usize, dimensions: usize) -> usize
+    requires { ⌜ (rows ≤ 1000000) × (dimensions ≤ 4096) × RoomFor length rows dimensions ⌝ }
+    ensures { λ r. ⌜ r ≡ rowStart length rows dimensions 0 ⌝ }
 {
-    let scale = float::f64_value(le::u64_at(cache, at));
-    let norm = le::i64_at(cache, at + 8);
-    let t = codes::row_check(cache, at + 16, n);
-    row::valid(metric, scale, norm, t.squares, t.whole)
+    length - 4 - rows * geometry::row_length(dimensions)
 }
 
 // The lowest invalid row, or the row count.
-fn bad_row(metric: Metric, rows: usize, dimensions: usize, cache: &[u8]) -> usize
-    requires { ⌜ (rows ≤ 1000000) × (dimensions ≤ 4096) × (rows * rowLength dimensions + 4 ≤ length (now cache)) ⌝ }
-    ensures { λ r. ⌜ r ≡ badRow metric rows dimensions (now (cache .entry)) ⌝ }
+fn bad_row(levels: u32, metric: Metric, rows: usize, dimensions: usize, cache: &[u8]) -> usize
+    requires { ⌜ Levels levels × (rows ≤ 1000000) × (dimensions ≤ 4096) × RoomFor (length (now cache)) rows dimensions ⌝ }
+    ensures { λ r. ⌜ r ≡ badRow levels metric rows dimensions (now (cache .entry)) ⌝ }
 {
     let length = geometry::row_length(dimensions);
-    let mut at = cache.len() - 4 - rows * length;
+    let mut at = rows_at(cache.len(), rows, dimensions);
     let mut row = 0;
     while row < rows {
-        if !row_holds(metric, cache, at, dimensions) {
+        if !row::holds(levels, metric, cache, at, dimensions) {
             return row;
         }
         at += length;
@@ -139,11 +136,17 @@ fn bad_row(metric: Metric, rows: usize, dimensions: usize, cache: &[u8]) -> usiz
 }
 
 // Opening's 14, then 15.
-fn content_refusal(metric: Metric, rows: usize, dimensions: usize, cache: &[u8]) -> Refusal
-    requires { ⌜ (rows ≤ 1000000) × (dimensions ≤ 4096) × (rows * rowLength dimensions + 4 ≤ length (now cache)) ⌝ }
-    ensures { λ r. ⌜ r ≡ contentRefusal metric rows dimensions (now (cache .entry)) ⌝ }
+fn content_refusal(
+    levels: u32,
+    metric: Metric,
+    rows: usize,
+    dimensions: usize,
+    cache: &[u8],
+) -> Refusal
+    requires { ⌜ Levels levels × (rows ≤ 1000000) × (dimensions ≤ 4096) × RoomFor (length (now cache)) rows dimensions ⌝ }
+    ensures { λ r. ⌜ r ≡ contentRefusal levels metric rows dimensions (now (cache .entry)) ⌝ }
 {
-    let bad = bad_row(metric, rows, dimensions, cache);
+    let bad = bad_row(levels, metric, rows, dimensions, cache);
     if bad < rows {
         return Refusal {
             number: 14,
@@ -192,11 +195,17 @@ fn open_number(
 
 // The rows and the CRC-32 of a cache whose head is the library's.
 fn rows_refusal(m: &[u8], cache: &[u8]) -> Refusal
-    requires { ⌜ (headNumber (now m) ≡ 0) × (rowsOf (now m) * rowLength (dimensionsOf (now m)) + 4 ≤ length (now cache)) ⌝ }
-    ensures { λ r. ⌜ r ≡ contentRefusal (metricAt (now (m .entry))) (rowsOf (now (m .entry))) (dimensionsOf (now (m .entry))) (now (cache .entry)) ⌝ }
+    requires { ⌜ (headNumber (now m) ≡ 0) × RoomFor (length (now cache)) (rowsOf (now m)) (dimensionsOf (now m)) ⌝ }
+    ensures { λ r. ⌜ r ≡ contentRefusal baseLevels (metricAt (now (m .entry))) (rowsOf (now (m .entry))) (dimensionsOf (now (m .entry))) (now (cache .entry)) ⌝ }
 {
     let layout = format::read_layout(m);
-    content_refusal(format::metric(m), layout.rows, layout.dimensions, cache)
+    content_refusal(
+        quantization::BASE_LEVELS,
+        format::metric(m),
+        layout.rows,
+        layout.dimensions,
+        cache,
+    )
 }
 
 // The answer to a refusal, or to none.
@@ -253,4 +262,13 @@ pub fn open(
     }
     let refusal = rows_refusal(manifest, cache);
     answer(manifest, cache, refusal)
+}
+
+// What a search tests of a cache's length, against the state that opening returned.
+pub fn length_holds(state: State, rows: usize, dimensions: usize, cache: &[u8]) -> bool
+    requires { ⌜ (rows ≤ 1000000) × (dimensions ≤ 4096) ⌝ }
+    ensures { λ r. ⌜ r ≡ cacheLengthOk state rows dimensions (length (now (cache .entry))) ⌝ }
+{
+    let length = cache.len();
+    (length == state.cache) & (rows * geometry::row_length(dimensions) + 4 <= length)
 }

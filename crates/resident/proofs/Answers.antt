@@ -1,12 +1,13 @@
 -- What building answers, by the numbers of its tests. Assumes nothing.
 use mathlib.Core.Path.{_≡_, sym}
+use mathlib.Core.Bool.{true}
 use mathlib.Core.List.{List}
 use Prim.Native.Nat.{ℕ, _*_, _≤_}
 use lib.Dec.{leb}
 use borrow.Author.Tests.{leb-true, ne-eqb}
 use Rattle.le.proofs.Chain.{held}
-use Rattle.config.proofs.Refusals.{not-zero, goes-on, stops, none-refused}
-use Rattle.config.specs.Refusal.{refused}
+use Rattle.config.proofs.Refusals.{not-zero, goes-on, stops, none-refused, Plain, plain-or}
+use Rattle.config.specs.Refusal.{refused, refusedOr}
 use Rattle.config.specs.declared.Refusal.{Refusal}
 use Rattle.format.specs.Fields.{dimensionsOf, rowsOf}
 use Rattle.format.specs.declared.Head.{Head}
@@ -15,7 +16,7 @@ use Rattle.geometry.specs.Sizing.{codesOk}
 use Rattle.manifest.specs.Check.{manifestNumber}
 use Rattle.resident.specs.Build.{roomOk, roomNumber, plannedRefusal, buildRefusal, answered}
 use Rattle.rows.specs.Rows.{badRow, recordsRefusal}
-use Rattle.rows.proofs.Written.{none-bad}
+use Rattle.rows.proofs.Written.{none-bad, records-plain}
 
 -- ---- a refusal's answer has nothing of the head
 pub answered-refused : (h k : Head) (f : Refusal) (codes scales norms : ℕ) → (f .number ≡ 0 → ⊥) → answered h f codes scales norms ≡ answered k f codes scales norms
@@ -33,17 +34,28 @@ module _ (m : List ℕ) (expected room : ℕ) (s : List ℕ) (codes scales norms
   refused-next e = sym (goes-on (manifestNumber m expected room) (plannedRefusal m s codes scales norms) e)
 
 -- ---- nothing is refused
-pub roomy : (rows dimensions codes scales norms : ℕ) → roomNumber rows dimensions codes scales norms ≡ 0 → (rows * dimensions ≤ codes) × (rows ≤ scales) × (rows ≤ norms)
-unfolding roomNumber
-roomy rows dimensions codes scales norms h =
-    let a = held (codesOk rows dimensions) not-zero h in
-    let b = both (held (roomOk rows dimensions codes scales norms) not-zero (a .1) .0) in
+pub room-is : (rows dimensions codes scales norms : ℕ) → roomOk rows dimensions codes scales norms ≡ true → (rows * dimensions ≤ codes) × (rows ≤ scales) × (rows ≤ norms)
+room-is rows dimensions codes scales norms h =
+    let b = both {b = leb rows norms} h in
     let d = both {a = leb (rows * dimensions) codes} {b = leb rows scales} (b .0) in
     (leb-true (rows * dimensions) codes (d .0), leb-true rows scales (d .1), leb-true rows norms (b .1))
 
+room-held : (rows dimensions codes scales norms : ℕ) → roomNumber rows dimensions codes scales norms ≡ 0 → roomOk rows dimensions codes scales norms ≡ true
+unfolding roomNumber
+room-held rows dimensions codes scales norms h =
+    let a = held (codesOk rows dimensions) not-zero h in
+    held (roomOk rows dimensions codes scales norms) not-zero (a .1) .0
+
 pub planned-none : (m s : List ℕ) (codes scales norms : ℕ) → plannedRefusal m s codes scales norms .number ≡ 0
-    → (badRow m s ≡ rowsOf m) × ((rowsOf m * dimensionsOf m ≤ codes) × (rowsOf m ≤ scales) × (rowsOf m ≤ norms))
+    → (badRow m s ≡ rowsOf m) × (roomOk (rowsOf m) (dimensionsOf m) codes scales norms ≡ true)
 unfolding plannedRefusal
 planned-none m s codes scales norms h =
     let n = none-refused (roomNumber (rowsOf m) (dimensionsOf m) codes scales norms) (recordsRefusal m s) h in
-    (none-bad m s (n .1), roomy (rowsOf m) (dimensionsOf m) codes scales norms (n .0))
+    (none-bad m s (n .1), room-held (rowsOf m) (dimensionsOf m) codes scales norms (n .0))
+
+-- number 0 is no refusal
+pub built-none : (m : List ℕ) (expected room : ℕ) (s : List ℕ) (codes scales norms : ℕ) → Plain (buildRefusal m expected room s codes scales norms)
+unfolding buildRefusal plannedRefusal
+built-none m expected room s codes scales norms =
+    let n = roomNumber (rowsOf m) (dimensionsOf m) codes scales norms in
+    plain-or (manifestNumber m expected room) (refusedOr n (recordsRefusal m s)) (plain-or n (recordsRefusal m s) (records-plain m s))

@@ -7,6 +7,7 @@ use native.Mathlib.Nat.{mul-le-mul}
 use native.Mathlib.Omega.{arith}
 use lib.ListN.{length, take, drop, length-take, length-drop}
 use lib.IntN.{ℤ}
+use lib.Ieee.{Float}
 use mir.Syntax.{w64}
 use mir.Val.{toZ, ofZ}
 use mir.Facts.{toZ-ofZ}
@@ -16,15 +17,11 @@ use Rattle.format.specs.Layout.{Placed}
 use Rattle.format.specs.declared.Layout.{Layout}
 use Rattle.format.specs.Fields.{dimensionsOf, rowsOf}
 use Rattle.segment.specs.Record.{recordAt}
-use Rattle.quantization.specs.Encoder.{encode, midpoints}
-use Rattle.quantization.proofs.Encoded.{norm-fits}
+use Rattle.quantization.specs.Encoder.{Levels, encode, midpointsOf}
+use Rattle.quantization.proofs.Encoded.{norm-fits, formula}
 use Rattle.rows.proofs.Joined.{part-ends}
-use Rattle.rows.proofs.Written.{Good, own-codes}
-use Rattle.resident.specs.Build.{residentRow}
-
-pub length-codes : (m s : List ℕ) (r : ℕ) → length (residentRow m s r .codes) ≡ dimensionsOf m
-unfolding residentRow
-length-codes m s r = own-codes m s r
+use Rattle.rows.specs.Rows.{rowOf}
+use Rattle.segment.proofs.Records.{Good}
 
 -- ---- where a row's codes lie
 pub room : {m : List ℕ} {l : Layout} → Placed m l → (n row : ℕ) → row < l .rows → rowsOf m * dimensionsOf m ≤ n
@@ -37,9 +34,8 @@ room {m} {l} p n row h w =
 pub part-length : {A : Type 0} (cs : List A) (at e k : ℕ) → e ≡ at + k → at + k ≤ length cs → length (take (e - at) (drop at cs)) ≡ k
 part-length cs at e k p h = rw (length-take (e - at) (drop at cs), length-drop at cs) (omega arith)
 
-pub same-row : (m s : List ℕ) (r n from : ℕ) → n ≡ dimensionsOf m → from ≡ recordAt m r + 12 → encode 127 midpoints (floatsAt n s from) ≡ residentRow m s r
-unfolding residentRow
-same-row m s r n from p q = rw (p, q)
+pub same-row : (levels : ℕ) (mids : List Float) (m s : List ℕ) (r n from : ℕ) → n ≡ dimensionsOf m → from ≡ recordAt m r + 12 → encode levels mids (floatsAt n s from) ≡ rowOf levels mids m s r
+same-row levels mids m s r n from p q = rw (p, q)
 
 -- what the encoder asks of a row's record, into a part as long as the dimensions
 pub asks : (m s : List ℕ) (r : ℕ) {n from : ℕ} → n ≡ dimensionsOf m → dimensionsOf m ≤ 4096 → from ≡ recordAt m r → Good m s r
@@ -47,10 +43,11 @@ pub asks : (m s : List ℕ) (r : ℕ) {n from : ℕ} → n ≡ dimensionsOf m �
 asks m s r {n} {from} e h f g = rw (e, f) ((h, g .inside), g .fine)
 
 -- a norm is stored by its bits
-pub norm-stored : (m s : List ℕ) (r : ℕ) {z : ℤ} → dimensionsOf m ≤ 4096 → z ≡ residentRow m s r .norm → toZ w64 (ofZ w64 z) ≡ residentRow m s r .norm
-unfolding residentRow
-norm-stored m s r h e =
+pub norm-stored : {levels : ℕ} → Levels levels → (m s : List ℕ) (r : ℕ) {z : ℤ} → dimensionsOf m ≤ 4096
+    → let e = rowOf levels (midpointsOf levels) m s r in
+    z ≡ e .norm → toZ w64 (ofZ w64 z) ≡ e .norm
+norm-stored {levels} g m s r h e =
     let n = dimensionsOf m in
     let at = recordAt m r + 12 in
     let k : length (floatsAt n s at) ≤ 4096 = rw (length-floats n s at) h in
-    rw e (toZ-ofZ (norm-fits (floatsAt n s at) k))
+    rw e (toZ-ofZ (norm-fits levels (midpointsOf levels) (formula g .count) (floatsAt n s at) (g .1) k))

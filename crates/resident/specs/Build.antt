@@ -4,12 +4,11 @@
 use mathlib.Core.Bool.{Bool, _&&_}
 use mathlib.Core.List.{List, [], _∷_}
 use Prim.Native.Nat.{ℕ, _*_}
-use lib.Dec.{leb}
+use lib.Dec.{leb, eqb}
 use lib.IntN.{ℤ, pos}
 use lib.ListN.{getD}
-use lib.Ieee.{Float}
+use lib.Ieee.{Float, nan}
 use Rattle.le.specs.Le.{paste}
-use Rattle.float.specs.Values.{zero as nought}
 use Rattle.config.specs.Refusal.{refusedOr, unlessRefused}
 use Rattle.config.specs.declared.Refusal.{Refusal}
 use Rattle.format.specs.Order.{unless}
@@ -19,7 +18,6 @@ use Rattle.format.specs.declared.Head.{Head}
 use Rattle.geometry.specs.Sizing.{codesOk}
 use Rattle.manifest.specs.Check.{manifestNumber}
 use Rattle.quantization.specs.View.{View}
-use Rattle.quantization.specs.Encoder.{baseLevels, midpoints}
 use Rattle.codes.specs.Codes.{part}
 use Rattle.rows.specs.Rows.{rowOf, joined, recordsRefusal}
 use Rattle.resident.specs.declared.State.{State}
@@ -58,31 +56,33 @@ answered head refusal codes scales norms =
 abbrev pub builtBy : List ℕ → Refusal → ℕ → ℕ → ℕ → Built
 builtBy m refusal codes scales norms = answered (headAt m) refusal codes scales norms
 
--- the encoder's row of the record of row r (document 01, The arithmetic, Encoder)
-unfoldable pub residentRow : List ℕ → List ℕ → ℕ → View
-residentRow m s r = rowOf baseLevels midpoints m s r
+-- the codes, scales and norms of the first n rows by an encoder's levels and midpoints (document 01, The arithmetic, Encoder), and what stood
+-- past them (readings R2: "Elements past the rows are neither written nor tested")
+abbrev pub codesUpto : ℕ → List Float → List ℕ → List ℕ → ℕ → List ℤ → List ℤ
+codesUpto levels mids m s n d = paste d 0 (joined (λ r. rowOf levels mids m s r .codes) n)
 
--- the codes, scales and norms of the first n rows, and what stood past them (readings R2: "Elements past the rows are neither written nor
--- tested")
-abbrev pub codesUpto : List ℕ → List ℕ → ℕ → List ℤ → List ℤ
-codesUpto m s n d = paste d 0 (joined (λ r. residentRow m s r .codes) n)
+abbrev pub scalesUpto : ℕ → List Float → List ℕ → List ℕ → ℕ → List Float → List Float
+scalesUpto levels mids m s n d = paste d 0 (joined (λ r. rowOf levels mids m s r .scale ∷ []) n)
 
-abbrev pub scalesUpto : List ℕ → List ℕ → ℕ → List Float → List Float
-scalesUpto m s n d = paste d 0 (joined (λ r. residentRow m s r .scale ∷ []) n)
-
-abbrev pub normsUpto : List ℕ → List ℕ → ℕ → List ℤ → List ℤ
-normsUpto m s n d = paste d 0 (joined (λ r. residentRow m s r .norm ∷ []) n)
+abbrev pub normsUpto : ℕ → List Float → List ℕ → List ℕ → ℕ → List ℤ → List ℤ
+normsUpto levels mids m s n d = paste d 0 (joined (λ r. rowOf levels mids m s r .norm ∷ []) n)
 
 -- what building leaves of a lent slice: all rows where nothing is refused, else what was lent
-abbrev pub codesAfter : List ℕ → List ℕ → Refusal → List ℤ → List ℤ
-codesAfter m s refusal d = unlessRefused refusal (codesUpto m s (rowsOf m) d) d
+abbrev pub codesAfter : ℕ → List Float → List ℕ → List ℕ → Refusal → List ℤ → List ℤ
+codesAfter levels mids m s refusal d = unlessRefused refusal (codesUpto levels mids m s (rowsOf m) d) d
 
-abbrev pub scalesAfter : List ℕ → List ℕ → Refusal → List Float → List Float
-scalesAfter m s refusal d = unlessRefused refusal (scalesUpto m s (rowsOf m) d) d
+abbrev pub scalesAfter : ℕ → List Float → List ℕ → List ℕ → Refusal → List Float → List Float
+scalesAfter levels mids m s refusal d = unlessRefused refusal (scalesUpto levels mids m s (rowsOf m) d) d
 
-abbrev pub normsAfter : List ℕ → List ℕ → Refusal → List ℤ → List ℤ
-normsAfter m s refusal d = unlessRefused refusal (normsUpto m s (rowsOf m) d) d
+abbrev pub normsAfter : ℕ → List Float → List ℕ → List ℕ → Refusal → List ℤ → List ℤ
+normsAfter levels mids m s refusal d = unlessRefused refusal (normsUpto levels mids m s (rowsOf m) d) d
 
 -- row n of resident slices, as a search sees it
 abbrev pub residentAt : ℕ → List ℤ → List Float → List ℤ → ℕ → View
-residentAt dimensions codes scales norms n = record { scale = getD scales n nought; norm = getD norms n (pos 0); codes = part dimensions codes (n * dimensions) }
+residentAt dimensions codes scales norms n = record { scale = getD scales n nan; norm = getD norms n (pos 0); codes = part dimensions codes (n * dimensions) }
+
+-- the lengths of the slices lent to a search (document 01, table, 21: "the cache or resident length differs"): as building's state has them,
+-- and, of a state that no building returned, not under what the rows need (readings R3)
+unfoldable pub lengthsOk : State → ℕ → ℕ → ℕ → ℕ → ℕ → Bool
+lengthsOk state rows dimensions codes scales norms =
+    eqb codes (state .codes) && eqb scales (state .scales) && eqb norms (state .norms) && roomOk rows dimensions codes scales norms

@@ -9,10 +9,10 @@ ghost use Rattle.format.specs.Plan.{rowsOk};
 ghost use Rattle.format.specs.Layout.{Placed};
 ghost use Rattle.manifest.specs.Scratch.{rowKeys};
 ghost use Rattle.manifest.specs.Check.{scratchAfter};
-ghost use Rattle.segment.specs.Record.{Starts};
-ghost use Rattle.quantization.specs.Encoder.{midpoints};
+ghost use Rattle.segment.specs.Record.{startsOf};
+ghost use Rattle.quantization.specs.Encoder.{Levels, midpointsOf, baseLevels, midpoints};
 ghost use Rattle.rows.specs.Rows.{badRow};
-ghost use Rattle.resident.specs.Build.{roomNumber, plannedRefusal, buildRefusal, answered, builtBy, codesUpto, scalesUpto, normsUpto, codesAfter, scalesAfter, normsAfter};
+ghost use Rattle.resident.specs.Build.{roomOk, roomNumber, lengthsOk, plannedRefusal, buildRefusal, answered, builtBy, codesUpto, scalesUpto, normsUpto, codesAfter, scalesAfter, normsAfter};
 use config::Refusal;
 use format::Head;
 use format::Layout;
@@ -33,6 +33,14 @@ pub struct Built {
 
 // ---- The tests.
 
+// Building's 11, of the three slices.
+fn room_holds(rows: usize, dimensions: usize, codes: usize, scales: usize, norms: usize) -> bool
+    requires { ⌜ (rows ≤ 1000000) × (dimensions ≤ 4096) ⌝ }
+    ensures { λ r. ⌜ r ≡ roomOk rows dimensions codes scales norms ⌝ }
+{
+    (rows * dimensions <= codes) & (rows <= scales) & (rows <= norms)
+}
+
 // The number of the first test of the sizes that fails, or 0.
 fn room_number(rows: usize, dimensions: usize, codes: usize, scales: usize, norms: usize) -> u32
     requires { ⌜ (rows ≤ 1000000) × (dimensions ≤ 4096) ⌝ }
@@ -41,10 +49,10 @@ fn room_number(rows: usize, dimensions: usize, codes: usize, scales: usize, norm
     if !geometry::codes_hold(rows, dimensions) {
         return 8;
     }
-    if (rows * dimensions <= codes) & (rows <= scales) & (rows <= norms) {
-        return 0;
+    if !room_holds(rows, dimensions, codes, scales, norms) {
+        return 11;
     }
-    11
+    0
 }
 
 // Of an accepted manifest, its rows in the order of their records, and the lengths of the slices.
@@ -64,9 +72,28 @@ fn plan(m: &[u8], s: &[u8], keys: &[u64], codes: usize, scales: usize, norms: us
     rows::records_refusal(m, layout, &starts, s, keys)
 }
 
+// The lengths that a search compares, against those of the state and what the rows need.
+pub fn lengths_hold(
+    state: State,
+    rows: usize,
+    dimensions: usize,
+    codes: usize,
+    scales: usize,
+    norms: usize,
+) -> bool
+    requires { ⌜ (rows ≤ 1000000) × (dimensions ≤ 4096) ⌝ }
+    ensures { λ r. ⌜ r ≡ lengthsOk state rows dimensions codes scales norms ⌝ }
+{
+    (codes == state.codes)
+        & (scales == state.scales)
+        & (norms == state.norms)
+        & room_holds(rows, dimensions, codes, scales, norms)
+}
+
 // ---- The rows.
 
 fn fill(
+    levels: u32,
     m: &[u8],
     layout: Layout,
     starts: &[u64; 1025],
@@ -76,16 +103,16 @@ fn fill(
     scales: &mut [f64],
     norms: &mut [i64],
 )
-    requires { ⌜ Placed (now m) layout × (rowsOk (now m) ≡ true) × Starts (now m) (now starts) × (now t ≡ midpoints) × (badRow (now m) (now s) ≡ rowsOf (now m)) ⌝ }
+    requires { ⌜ Placed (now m) layout × (rowsOk (now m) ≡ true) × (now starts ≡ startsOf (now m)) × (now t ≡ midpoints) × (badRow (now m) (now s) ≡ rowsOf (now m)) × Levels levels ⌝ }
     requires { ⌜ (rowsOf (now m) * dimensionsOf (now m) ≤ length (now codes)) × (rowsOf (now m) ≤ length (now scales)) × (rowsOf (now m) ≤ length (now norms)) ⌝ }
-    ensures { λ r. ⌜ (now (codes .exit) ≡ codesUpto (now (m .entry)) (now (s .entry)) (rowsOf (now (m .entry))) (now (codes .entry))) × (now (scales .exit) ≡ scalesUpto (now (m .entry)) (now (s .entry)) (rowsOf (now (m .entry))) (now (scales .entry))) × (now (norms .exit) ≡ normsUpto (now (m .entry)) (now (s .entry)) (rowsOf (now (m .entry))) (now (norms .entry))) ⌝ }
+    ensures { λ r. ⌜ (now (codes .exit) ≡ codesUpto levels (midpointsOf levels) (now (m .entry)) (now (s .entry)) (rowsOf (now (m .entry))) (now (codes .entry))) × (now (scales .exit) ≡ scalesUpto levels (midpointsOf levels) (now (m .entry)) (now (s .entry)) (rowsOf (now (m .entry))) (now (scales .entry))) × (now (norms .exit) ≡ normsUpto levels (midpointsOf levels) (now (m .entry)) (now (s .entry)) (rowsOf (now (m .entry))) (now (norms .entry))) ⌝ }
 {
     let mut row = 0;
     while row < layout.rows {
         let from = segment::record_at(m, layout, starts, row) + 12;
         let at = row * layout.dimensions;
         let end = at + layout.dimensions;
-        let encoded = quantization::encode_resident(t, s, from, &mut codes[at..end]);
+        let encoded = quantization::encode_resident(t, levels, s, from, &mut codes[at..end]);
         let scale = encoded.scale;
         let norm = encoded.norm;
         scales[row] = scale;
@@ -95,15 +122,15 @@ fn fill(
 }
 
 // All rows, of an accepted manifest and good records.
-fn store(m: &[u8], s: &[u8], codes: &mut [i8], scales: &mut [f64], norms: &mut [i64])
-    requires { ⌜ (headNumber (now m) ≡ 0) × (rowsOk (now m) ≡ true) × (badRow (now m) (now s) ≡ rowsOf (now m)) ⌝ }
+fn store(levels: u32, m: &[u8], s: &[u8], codes: &mut [i8], scales: &mut [f64], norms: &mut [i64])
+    requires { ⌜ (headNumber (now m) ≡ 0) × (rowsOk (now m) ≡ true) × (badRow (now m) (now s) ≡ rowsOf (now m)) × Levels levels ⌝ }
     requires { ⌜ (rowsOf (now m) * dimensionsOf (now m) ≤ length (now codes)) × (rowsOf (now m) ≤ length (now scales)) × (rowsOf (now m) ≤ length (now norms)) ⌝ }
-    ensures { λ r. ⌜ (now (codes .exit) ≡ codesUpto (now (m .entry)) (now (s .entry)) (rowsOf (now (m .entry))) (now (codes .entry))) × (now (scales .exit) ≡ scalesUpto (now (m .entry)) (now (s .entry)) (rowsOf (now (m .entry))) (now (scales .entry))) × (now (norms .exit) ≡ normsUpto (now (m .entry)) (now (s .entry)) (rowsOf (now (m .entry))) (now (norms .entry))) ⌝ }
+    ensures { λ r. ⌜ (now (codes .exit) ≡ codesUpto levels (midpointsOf levels) (now (m .entry)) (now (s .entry)) (rowsOf (now (m .entry))) (now (codes .entry))) × (now (scales .exit) ≡ scalesUpto levels (midpointsOf levels) (now (m .entry)) (now (s .entry)) (rowsOf (now (m .entry))) (now (scales .entry))) × (now (norms .exit) ≡ normsUpto levels (midpointsOf levels) (now (m .entry)) (now (s .entry)) (rowsOf (now (m .entry))) (now (norms .entry))) ⌝ }
 {
     let layout = format::read_layout(m);
     let starts = segment::starts(m, layout);
     let t = quantization::midpoints_table();
-    fill(m, layout, &starts, &t, s, codes, scales, norms);
+    fill(levels, m, layout, &starts, &t, s, codes, scales, norms);
 }
 
 // ---- Building.
@@ -143,14 +170,14 @@ fn build_accepted(
     norms: &mut [i64],
 ) -> Built
     requires { ⌜ (headNumber (now m) ≡ 0) × (rowsOk (now m) ≡ true) × (now keys ≡ rowKeys (now m)) ⌝ }
-    ensures { λ r. ⌜ (let refusal = plannedRefusal (now (m .entry)) (now (s .entry)) (length (now (codes .entry))) (length (now (scales .entry))) (length (now (norms .entry))) in (r ≡ builtBy (now (m .entry)) refusal (length (now (codes .entry))) (length (now (scales .entry))) (length (now (norms .entry)))) × (now (codes .exit) ≡ codesAfter (now (m .entry)) (now (s .entry)) refusal (now (codes .entry))) × (now (scales .exit) ≡ scalesAfter (now (m .entry)) (now (s .entry)) refusal (now (scales .entry))) × (now (norms .exit) ≡ normsAfter (now (m .entry)) (now (s .entry)) refusal (now (norms .entry)))) ⌝ }
+    ensures { λ r. ⌜ (let refusal = plannedRefusal (now (m .entry)) (now (s .entry)) (length (now (codes .entry))) (length (now (scales .entry))) (length (now (norms .entry))) in (r ≡ builtBy (now (m .entry)) refusal (length (now (codes .entry))) (length (now (scales .entry))) (length (now (norms .entry)))) × (now (codes .exit) ≡ codesAfter baseLevels midpoints (now (m .entry)) (now (s .entry)) refusal (now (codes .entry))) × (now (scales .exit) ≡ scalesAfter baseLevels midpoints (now (m .entry)) (now (s .entry)) refusal (now (scales .entry))) × (now (norms .exit) ≡ normsAfter baseLevels midpoints (now (m .entry)) (now (s .entry)) refusal (now (norms .entry)))) ⌝ }
 {
     let head = format::read_head(m);
     let refusal = plan(m, s, keys, codes.len(), scales.len(), norms.len());
     if refusal.number != 0 {
         return answer(head, refusal, codes.len(), scales.len(), norms.len());
     }
-    store(m, s, codes, scales, norms);
+    store(quantization::BASE_LEVELS, m, s, codes, scales, norms);
     answer(head, refusal, codes.len(), scales.len(), norms.len())
 }
 
@@ -163,7 +190,7 @@ pub fn build(
     scales: &mut [f64],
     norms: &mut [i64],
 ) -> Built
-    ensures { λ r. ⌜ (let refusal = buildRefusal (now (manifest .entry)) «expected_crc» (length (now (scratch .entry))) (now (segments .entry)) (length (now (codes .entry))) (length (now (scales .entry))) (length (now (norms .entry))) in (r ≡ builtBy (now (manifest .entry)) refusal (length (now (codes .entry))) (length (now (scales .entry))) (length (now (norms .entry)))) × (now (scratch .exit) ≡ scratchAfter (now (manifest .entry)) «expected_crc» (now (scratch .entry))) × (now (codes .exit) ≡ codesAfter (now (manifest .entry)) (now (segments .entry)) refusal (now (codes .entry))) × (now (scales .exit) ≡ scalesAfter (now (manifest .entry)) (now (segments .entry)) refusal (now (scales .entry))) × (now (norms .exit) ≡ normsAfter (now (manifest .entry)) (now (segments .entry)) refusal (now (norms .entry)))) ⌝ }
+    ensures { λ r. ⌜ (let refusal = buildRefusal (now (manifest .entry)) «expected_crc» (length (now (scratch .entry))) (now (segments .entry)) (length (now (codes .entry))) (length (now (scales .entry))) (length (now (norms .entry))) in (r ≡ builtBy (now (manifest .entry)) refusal (length (now (codes .entry))) (length (now (scales .entry))) (length (now (norms .entry)))) × (now (scratch .exit) ≡ scratchAfter (now (manifest .entry)) «expected_crc» (now (scratch .entry))) × (now (codes .exit) ≡ codesAfter baseLevels midpoints (now (manifest .entry)) (now (segments .entry)) refusal (now (codes .entry))) × (now (scales .exit) ≡ scalesAfter baseLevels midpoints (now (manifest .entry)) (now (segments .entry)) refusal (now (scales .entry))) × (now (norms .exit) ≡ normsAfter baseLevels midpoints (now (manifest .entry)) (now (segments .entry)) refusal (now (norms .entry)))) ⌝ }
 {
     let number = manifest::accept(manifest, expected_crc, scratch);
     if number != 0 {
@@ -177,6 +204,6 @@ pub fn build(
     let layout = format::read_layout(manifest);
     let rows = layout.rows;
     let built = build_accepted(manifest, segments, &scratch[..rows], codes, scales, norms);
-    manifest::clear(scratch);
+    le::clear(scratch);
     built
 }

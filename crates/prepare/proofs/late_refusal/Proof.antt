@@ -22,5 +22,5 @@ late-refusal-spec =
     returns
     (λ c κs. search needs)
     (λ c κs. let b = c .before .before .before .before .before in (c .read-layout .ensures, lengths-of (b .args .m .now) (b .pre .1)))
-    (λ c κs. let b = c .before .before .before .before .before .before .before in (b .pre .0, c .before .before .read-layout .ensures, b .pre .1, c .before .starts .ensures, b .pre .2))
+    (λ c κs. let b = c .before .before .before .before .before .before .before in (c .before .before .read-layout .ensures, b .pre .1, c .before .starts .ensures, b .pre .2))
     returns-2)

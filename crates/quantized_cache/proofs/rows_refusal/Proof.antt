@@ -1,4 +1,5 @@
 use mathlib.Core.Path.{_∙_}
+use Rattle.quantization.proofs.Encoded.{base}
 use Rattle.format.proofs.Heads.{bounds}
 use Rattle.quantized_cache.proofs.rows_refusal.Statement.{statement}
 use Rattle.quantized_cache.proofs.rows_refusal.Tie as tie
@@ -12,5 +13,5 @@ rows-refusal-spec =
     (λ c κs. let b = c .before .before .before .before in
     let h = bounds (b .args .m .now) (b .pre .0) in
     let l = c .before .read-layout .ensures in
-    rw (l .rows, l .dimensions) (h .most, h .high, b .pre .1))
+    rw (l .rows, l .dimensions) (base, h .most, h .high, b .pre .1))
     (λ c. let l = c .before .before .read-layout .ensures in c .content-refusal .ensures ∙ rw (c .before .metric .ensures, l .rows, l .dimensions)))

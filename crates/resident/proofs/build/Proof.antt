@@ -9,6 +9,7 @@ use Rattle.format.specs.Fields.{rowsOf}
 use Rattle.format.specs.Head.{headAt}
 use Rattle.manifest.specs.Check.{manifestNumber}
 use Rattle.manifest.proofs.Passed.{Planned, accepted, cleared, left, held-rows}
+use Rattle.quantization.specs.Encoder.{baseLevels, midpoints}
 use Rattle.resident.specs.Build.{buildRefusal, answered, codesUpto, scalesUpto, normsUpto}
 use Rattle.resident.proofs.Answers.{answered-refused, refused-first, refused-next}
 use Rattle.resident.proofs.build.Statement.{statement}
@@ -38,9 +39,9 @@ returns c =
     let o : R .number ≡ 0 → ⊥ = λ z. h (ap (λ (f : Refusal). f .number) (refused-first m x (length t) s k l n h) ∙ z) in (
       c .answer .ensures ∙ ap (λ (f : Refusal). answered (c .before .zero-head .result) f k l n) e ∙ answered-refused (c .before .zero-head .result) (headAt m) R k l n o,
       a .1 ∙ left m x t h,
-      sym (is-other R (codesUpto m s (rowsOf m) (b .args .codes .now)) (b .args .codes .now) o),
-      sym (is-other R (scalesUpto m s (rowsOf m) (b .args .scales .now)) (b .args .scales .now) o),
-      sym (is-other R (normsUpto m s (rowsOf m) (b .args .norms .now)) (b .args .norms .now) o),
+      sym (is-other R (codesUpto baseLevels midpoints m s (rowsOf m) (b .args .codes .now)) (b .args .codes .now) o),
+      sym (is-other R (scalesUpto baseLevels midpoints m s (rowsOf m) (b .args .scales .now)) (b .args .scales .now) o),
+      sym (is-other R (normsUpto baseLevels midpoints m s (rowsOf m) (b .args .norms .now)) (b .args .norms .now) o),
     )
 
 asked : tie.Need-build-accepted-requires

@@ -2,9 +2,11 @@ use borrow.Author.Needs.{needs}
 use mathlib.Core.Path.{_≡_, sym, _∙_}
 use lib.ListN.{length}
 use Rattle.config.proofs.Refusals.{is-done, is-other}
-use Rattle.format.specs.Fields.{rowsOf}
+use Rattle.format.specs.Fields.{dimensionsOf, rowsOf}
+use Rattle.quantization.specs.Encoder.{baseLevels, midpoints}
+use Rattle.quantization.proofs.Encoded.{base}
 use Rattle.resident.specs.Build.{plannedRefusal, codesUpto, scalesUpto, normsUpto}
-use Rattle.resident.proofs.Answers.{planned-none}
+use Rattle.resident.proofs.Answers.{planned-none, room-is}
 use Rattle.resident.proofs.build_accepted.Statement.{statement}
 use Rattle.resident.proofs.build_accepted.Tie as tie
 
@@ -17,16 +19,16 @@ returns c =
     let R = plannedRefusal m s (length (b .args .codes .now)) (length (b .args .scales .now)) (length (b .args .norms .now)) in
     let o : R .number ≡ 0 → ⊥ = rw e at (c .before .if1 .taken) in (
       c .answer .ensures ∙ rw (e, c .before .before .before .before .read-head .ensures),
-      sym (is-other R (codesUpto m s (rowsOf m) (b .args .codes .now)) (b .args .codes .now) o),
-      sym (is-other R (scalesUpto m s (rowsOf m) (b .args .scales .now)) (b .args .scales .now) o),
-      sym (is-other R (normsUpto m s (rowsOf m) (b .args .norms .now)) (b .args .norms .now) o),
+      sym (is-other R (codesUpto baseLevels midpoints m s (rowsOf m) (b .args .codes .now)) (b .args .codes .now) o),
+      sym (is-other R (scalesUpto baseLevels midpoints m s (rowsOf m) (b .args .scales .now)) (b .args .scales .now) o),
+      sym (is-other R (normsUpto baseLevels midpoints m s (rowsOf m) (b .args .norms .now)) (b .args .norms .now) o),
     )
 
 asked : tie.Need-store-requires
 asked c κs =
     let b = c .before .before .before .before .before .before .before .before .before .before .before in
     let w = planned-none (b .args .m .now) (b .args .s .now) (length (b .args .codes .now)) (length (b .args .scales .now)) (length (b .args .norms .now)) (rw (c .before .before .before .before .before .plan .ensures) at (c .before .before .before .if1 .left)) in
-    ((b .pre .0, b .pre .1, w .0), w .1)
+    ((b .pre .0, b .pre .1, w .0, base), room-is (rowsOf (b .args .m .now)) (dimensionsOf (b .args .m .now)) (length (b .args .codes .now)) (length (b .args .scales .now)) (length (b .args .norms .now)) (w .1))
 
 returns-2 : tie.Need-returns-2
 returns-2 c =
@@ -37,10 +39,10 @@ returns-2 c =
     let e = c .before .before .before .before .before .before .before .before .before .before .before .plan .ensures in
     let R = plannedRefusal m s (length (b .args .codes .now)) (length (b .args .scales .now)) (length (b .args .norms .now)) in
     let o : R .number ≡ 0 = rw e at (c .before .before .before .before .before .before .before .before .before .if1 .left) in (
-      c .answer2 .ensures ∙ rw (e, c .before .before .before .before .before .before .before .before .before .before .before .before .read-head .ensures, t .kept .1 .1 .0, t .kept .1 .1 .1 .0, t .kept .1 .1 .1 .1 .0),
-      t .ensures .0 ∙ sym (is-done R (codesUpto m s (rowsOf m) (b .args .codes .now)) (b .args .codes .now) o),
-      t .ensures .1 ∙ sym (is-done R (scalesUpto m s (rowsOf m) (b .args .scales .now)) (b .args .scales .now) o),
-      t .ensures .2 ∙ sym (is-done R (normsUpto m s (rowsOf m) (b .args .norms .now)) (b .args .norms .now) o),
+      c .answer2 .ensures ∙ rw (e, c .before .before .before .before .before .before .before .before .before .before .before .before .read-head .ensures, t .kept .1 .1 .1 .0, t .kept .1 .1 .1 .1 .0, t .kept .1 .1 .1 .1 .1 .0),
+      t .ensures .0 ∙ sym (is-done R (codesUpto baseLevels midpoints m s (rowsOf m) (b .args .codes .now)) (b .args .codes .now) o),
+      t .ensures .1 ∙ sym (is-done R (scalesUpto baseLevels midpoints m s (rowsOf m) (b .args .scales .now)) (b .args .scales .now) o),
+      t .ensures .2 ∙ sym (is-done R (normsUpto baseLevels midpoints m s (rowsOf m) (b .args .norms .now)) (b .args .norms .now) o),
     )
 
 pub build-accepted-spec : {M : Type 1} → statement M
@@ -53,7 +55,7 @@ build-accepted-spec =
     returns
     asked
     (λ c κs. search needs)
-    (λ c. c .before .before .before .before .before .store .kept .1 .1 .0)
     (λ c. c .before .before .before .before .before .store .kept .1 .1 .1 .0)
     (λ c. c .before .before .before .before .before .store .kept .1 .1 .1 .1 .0)
+    (λ c. c .before .before .before .before .before .store .kept .1 .1 .1 .1 .1 .0)
     returns-2)

@@ -5,24 +5,27 @@ use mathlib.Core.List.{[], _∷_}
 use Prim.Native.Nat.{_+_, _-_, _*_, _≤_, _<_}
 use native.Mathlib.Nat.{mul-le-mul}
 use lib.ListN.{length, take, drop}
+use Rattle.quantization.specs.Encoder.{midpointsOf}
 use Rattle.quantization.specs.View.{View}
 use Rattle.format.specs.Fields.{dimensionsOf, rowsOf}
 use Rattle.format.proofs.First.{each-passes}
 use Rattle.format.proofs.Entries.{lengths-of, entry-keeps}
 use Rattle.segment.specs.Record.{recordOk}
-use Rattle.resident.specs.Build.{residentRow, codesUpto, scalesUpto, normsUpto}
-use Rattle.rows.proofs.Written.{Good, good}
+use Rattle.resident.specs.Build.{codesUpto, scalesUpto, normsUpto}
+use Rattle.rows.specs.Rows.{rowOf}
+use Rattle.segment.proofs.Records.{Good, good}
+use Rattle.rows.proofs.Written.{own-codes}
 use Rattle.rows.proofs.Joined.{store-none, length-stored, part-turn, element-turn}
-use Rattle.resident.proofs.Rows.{room, length-codes, part-length, same-row, asks, norm-stored}
+use Rattle.resident.proofs.Rows.{room, part-length, same-row, asks, norm-stored}
 use Rattle.resident.proofs.fill.Statement.{statement}
 use Rattle.resident.proofs.fill.Tie as tie
 
 abbrev Inv-loop : tie.InvT-loop
-Inv-loop m layout starts t s codes₀ scales₀ norms₀ row₀ codes scales norms row =
-    (row ≤ layout .rows) × (codes ≡ codesUpto m s row codes₀) × (scales ≡ scalesUpto m s row scales₀) × (norms ≡ normsUpto m s row norms₀)
+Inv-loop levels m layout starts t s codes₀ scales₀ norms₀ row₀ codes scales norms row =
+    (row ≤ layout .rows) × (codes ≡ codesUpto levels (midpointsOf levels) m s row codes₀) × (scales ≡ scalesUpto levels (midpointsOf levels) m s row scales₀) × (norms ≡ normsUpto levels (midpointsOf levels) m s row norms₀)
 
 abbrev μ-loop : tie.MeasureT-loop
-μ-loop m layout starts t s codes₀ scales₀ norms₀ row₀ codes scales norms row = layout .rows - row
+μ-loop levels m layout starts t s codes₀ scales₀ norms₀ row₀ codes scales norms row = layout .rows - row
 
 -- a turn's row is one of the rows
 below : (c : tie.Then1 Inv-loop μ-loop) → let b = c .before .before .before .before .before .before in c .before .before .loop .row < rowsOf (b .args .m .now)
@@ -41,6 +44,7 @@ lengths : (c : tie.At-loop Inv-loop μ-loop)
     (length (c .loop .codes) ≡ length (b .args .codes .now)) × (length (c .loop .scales) ≡ length (b .args .scales .now)) × (length (c .loop .norms) ≡ length (b .args .norms .now))
 lengths c =
     let b = c .before .before .before .before in
+    let g = b .args .levels in
     let m = b .args .m .now in
     let s = b .args .s .now in
     let r = c .loop .row in
@@ -48,9 +52,9 @@ lengths c =
     let h : r ≤ rowsOf m = omega (arith, I .0, b .pre .0 .0 .rows) in
     let d : dimensionsOf m ≤ dimensionsOf m = omega arith in
     let w = mul-le-mul h d in (
-      ap length (I .1) ∙ length-stored (λ r. residentRow m s r .codes) (dimensionsOf m) (length-codes m s) (b .args .codes .now) 0 r (omega (arith, w, b .pre .1 .0)),
-      ap length (I .2) ∙ length-stored (λ r. residentRow m s r .scale ∷ []) 1 (λ r. refl) (b .args .scales .now) 0 r (omega (arith, h, b .pre .1 .1)),
-      ap length (I .3) ∙ length-stored (λ r. residentRow m s r .norm ∷ []) 1 (λ r. refl) (b .args .norms .now) 0 r (omega (arith, h, b .pre .1 .2)),
+      ap length (I .1) ∙ length-stored (λ r. rowOf g (midpointsOf g) m s r .codes) (dimensionsOf m) (own-codes g (midpointsOf g) m s) (b .args .codes .now) 0 r (omega (arith, w, b .pre .1 .0)),
+      ap length (I .2) ∙ length-stored (λ r. rowOf g (midpointsOf g) m s r .scale ∷ []) 1 (λ r. refl) (b .args .scales .now) 0 r (omega (arith, h, b .pre .1 .1)),
+      ap length (I .3) ∙ length-stored (λ r. rowOf g (midpointsOf g) m s r .norm ∷ []) 1 (λ r. refl) (b .args .norms .now) 0 r (omega (arith, h, b .pre .1 .2)),
     )
 
 -- and have room for the row
@@ -84,6 +88,7 @@ again c =
     let d = c .before .before .before .before .before .before .before in
     let b = d .before .before .before .before .before .before in
     let L = d .before .before .loop in
+    let g = b .args .levels in
     let m = b .args .m .now in
     let s = b .args .s .now in
     let p = b .pre .0 .0 in
@@ -93,11 +98,11 @@ again c =
     let l = lengths (d .before .before) in
     let x : L .row * b .args .layout .dimensions ≡ L .row * dimensionsOf m = ap (λ y. L .row * y) (p .dimensions) in
     let E = c .before .before .encode-resident .ensures in
-    let w = same-row m s (L .row) _ _ (part d) (ap (λ x. x + 12) (c .before .before .before .before .before .before .record-at .ensures)) in (
+    let w = same-row g (midpointsOf g) m s (L .row) _ _ (part d) (ap (λ x. x + 12) (c .before .before .before .before .before .before .record-at .ensures)) in (
       search needs,
-      part-turn (λ r. residentRow m s r .codes) (dimensionsOf m) (length-codes m s) (b .args .codes .now) 0 (L .row) (I .1) (E .0 ∙ ap (λ (v : View). v .codes) w) (omega (arith, x)) (ap (λ x. L .row * b .args .layout .dimensions + x) (p .dimensions)) (omega (arith, f .0, l .0)),
-      element-turn (λ r. residentRow m s r .scale) (b .args .scales .now) (L .row) (I .2) (E .1 ∙ ap (λ (v : View). v .scale) w) (omega (arith, h, b .pre .1 .1)),
-      element-turn (λ r. residentRow m s r .norm) (b .args .norms .now) (L .row) (I .3) (norm-stored m s (L .row) (p .high) (E .2 ∙ ap (λ (v : View). v .norm) w)) (omega (arith, h, b .pre .1 .2)),
+      part-turn (λ r. rowOf g (midpointsOf g) m s r .codes) (dimensionsOf m) (own-codes g (midpointsOf g) m s) (b .args .codes .now) 0 (L .row) (I .1) (E .0 ∙ ap (λ (v : View). v .codes) w) (omega (arith, x)) (ap (λ x. L .row * b .args .layout .dimensions + x) (p .dimensions)) (omega (arith, f .0, l .0)),
+      element-turn (λ r. rowOf g (midpointsOf g) m s r .scale) (b .args .scales .now) (L .row) (I .2) (E .1 ∙ ap (λ (v : View). v .scale) w) (omega (arith, h, b .pre .1 .1)),
+      element-turn (λ r. rowOf g (midpointsOf g) m s r .norm) (b .args .norms .now) (L .row) (I .3) (norm-stored (b .pre .0 .5) m s (L .row) (p .high) (E .2 ∙ ap (λ (v : View). v .norm) w)) (omega (arith, h, b .pre .1 .2)),
     )
 
 pub fill-spec : {M : Type 1} → statement M
@@ -107,9 +112,10 @@ fill-spec =
     Inv-loop
     μ-loop
     (λ c. let a = c .before .before .before .args in
+    let g = a .levels in
     let m = a .m .now in
     let s = a .s .now in
-    (search needs, store-none (λ r. residentRow m s r .codes) (a .codes .now) 0, store-none (λ r. residentRow m s r .scale ∷ []) (a .scales .now) 0, store-none (λ r. residentRow m s r .norm ∷ []) (a .norms .now) 0))
+    (search needs, store-none (λ r. rowOf g (midpointsOf g) m s r .codes) (a .codes .now) 0, store-none (λ r. rowOf g (midpointsOf g) m s r .scale ∷ []) (a .scales .now) 0, store-none (λ r. rowOf g (midpointsOf g) m s r .norm ∷ []) (a .norms .now) 0))
     (λ c κs. let b = c .before .before .before .before .before .before in
     let m = b .args .m .now in
     (b .pre .0 .0, lengths-of m (b .pre .0 .1), b .pre .0 .2, c .if1 .taken, entry-keeps m (c .before .before .loop .row) (b .pre .0 .1) (below c)))
@@ -121,7 +127,7 @@ fill-spec =
     (λ c. omega (arith, spare (c .before .before .before) .0))
     (λ c κs. let d = c .before .before .before .before in
     let b = d .before .before .before .before .before .before in
-    (b .pre .0 .3, asks (b .args .m .now) (b .args .s .now) (d .before .before .loop .row) (part d) (b .pre .0 .0 .high) (c .before .before .before .record-at .ensures) (record-good d)))
+    ((b .pre .0 .3, b .pre .0 .5), asks (b .args .m .now) (b .args .s .now) (d .before .before .loop .row) (part d) (b .pre .0 .0 .high) (c .before .before .before .record-at .ensures) (record-good d)))
     (λ c. let d = c .before .before .before .before .before .before .before in let h = below d in omega (arith, h, d .before .before .before .before .before .before .pre .0 .0 .most))
     (λ c. spare (c .before .before .before .before .before .before .before) .2)
     (λ c. let d = c .before .before .before .before .before .before .before in let h = below d in omega (arith, h, d .before .before .before .before .before .before .pre .0 .0 .most))

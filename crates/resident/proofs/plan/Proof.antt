@@ -33,5 +33,5 @@ plan-spec = tie.close (tie.spec
     (λ c κs. let p = c .read-layout .ensures in (omega (arith, p .rows, p .most), omega (arith, p .dimensions, p .high)))
     returns
     (λ c κs. let b = c .before .before .before .before .before .before in (c .before .before .read-layout .ensures, lengths-of (b .args .m .now) (b .pre .1)))
-    (λ c κs. let b = c .before .before .before .before .before .before .before .before in (b .pre .0, c .before .before .before .before .read-layout .ensures, b .pre .1, c .before .starts .ensures, b .pre .2))
+    (λ c κs. let b = c .before .before .before .before .before .before .before .before in (c .before .before .before .before .read-layout .ensures, b .pre .1, c .before .starts .ensures, b .pre .2))
     returns-2)
