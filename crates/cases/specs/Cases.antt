@@ -4,11 +4,12 @@ use mathlib.Core.Bool.{Bool, true, false}
 use mathlib.Core.List.{List, [], _∷_}
 use Prim.Native.Nat.{ℕ, _+_, _*_}
 use lib.IntN.{ℤ, pos, negsuc}
+use lib.ListN.{replicate}
 use lib.Ieee.{Float, fin, binary64, ofBits}
 use Rattle.float.specs.Values.{zero, one, two}
 use Rattle.config.specs.Refusal.{refused}
 use Rattle.config.specs.declared.Metric.the-variants.{SquaredL2, Cosine, InnerProduct}
-use Rattle.quantization.specs.View.{View}
+use Rattle.quantization.specs.View.{View, validRow}
 use Rattle.quantization.specs.Encoder.{baseLevels, encode, codeOf, midpoints}
 use Rattle.geometry.specs.Cache.{identityLength, cacheSize}
 use Rattle.geometry.specs.Sizing.{sizingNumber}
@@ -27,15 +28,15 @@ half s = fin s 1 (negsuc 0)
 abbrev minusZero : Float
 minusZero = fin true 0 (pos 0)
 
-abbrev row : Float → ℕ → List ℤ → View
+abbrev pub row : Float → ℕ → List ℤ → View
 row s n cs = record { scale = s; norm = pos n; codes = cs }
 
 -- with the levels and midpoints of the base
-abbrev encoded : List Float → View
+abbrev pub encoded : List Float → View
 encoded v = encode baseLevels midpoints v
 
 -- 1e200
-abbrev large : Float
+abbrev pub large : Float
 large = ofBits binary64 0x6974E718D7D7625A
 
 pub record Cases : Type 0 where
@@ -53,9 +54,10 @@ pub record Cases : Type 0 where
   -- "Inner product, query (1): original distance of record (+0) is -0.0, of record (-0) +0.0"
   pub f-plus : original InnerProduct (one ∷ []) (zero ∷ []) ≡ minusZero
   pub f-minus : original InnerProduct (one ∷ []) (minusZero ∷ []) ≡ zero
-  -- "L2, scale 1e200, norm 0: approximate +0. With norm 1 and a zero query: 22"
-  pub g-plus : approximate SquaredL2 (row large 0 (pos 0 ∷ [])) (encoded (whole 127 ∷ [])) ≡ zero
-  pub g-refused : (place : ℕ) → rowAnswer 127 SquaredL2 true place (row large 1 (pos 1 ∷ [])) (encoded (zero ∷ [])) ≡ Refused (refused 22 place)
+  -- "L2, scale 1e200, norm 0: approximate +0. With norm 1 and a zero query: 22": whatever the row's codes are, and in the first case the query
+  pub g-plus : (cs : List ℤ) (q : View) → approximate SquaredL2 (row large 0 cs) q ≡ zero
+  pub g-refused : (place n : ℕ) (cs : List ℤ) → validRow baseLevels SquaredL2 (row large 1 cs) ≡ true
+      → rowAnswer baseLevels SquaredL2 true place (row large 1 cs) (encoded (replicate n zero)) ≡ Refused (refused 22 place)
   -- "Platform `linux`, root `/s`, one-byte model, one segment, two rows of 3: identity 121, cache 179. Limit 187 passes, 186 gives 9;
   -- block 19 passes, 18 gives 7"; the manifest is 65 bytes, the model, 12 a segment and 20 a row long
   pub h-identity : identityLength 5 2 (65 + 1 + 12 * 1 + 20 * 2) ≡ 121

@@ -9,10 +9,9 @@ ghost use Rattle.crc32.specs.Crc.{crc32 as checksum};
 ghost use Rattle.float.specs.SquareRoot.{sqrtOf};
 ghost use Rattle.config.specs.Vector.{finites, floatsAt};
 ghost use Rattle.config.specs.declared.Metric.the-variants as M;
-ghost use Rattle.codes.specs.Codes.{codes, part, dot, squares, within};
-ghost use Rattle.codes.specs.Sums.{Small};
+ghost use Rattle.codes.specs.Codes.{codes, part, dot, squares, within, Small};
 ghost use Rattle.quantization.specs.View.{rowBytes};
-ghost use Rattle.quantization.specs.Encoder.{encode, midpoints};
+ghost use Rattle.quantization.specs.Encoder.{baseLevels, encode, midpoints};
 ghost use Rattle.math.specs.Distance.{Readable, inverseNorm, original};
 ghost use Rattle.math.specs.Four.{originalFour};
 ghost use Rattle.manifest.specs.Check.{scratchAfter};
@@ -50,7 +49,7 @@ pub extern "C" fn pv_sqrt(x: f64) -> f64
     float::sqrt(x)
 }
 
-// ---- Sums over codes. The caller lends room for two numbers: the sum of the squared codes, and 1 where every code is within 127.
+// ---- Sums over codes. The caller lends room for two numbers: the sum of the squared codes, and 1 where every code is within baseLevels.
 
 #[no_mangle]
 pub extern "C" fn pv_row_sums(c: &[u8], at: usize, q: &[i16], out: &mut [u32]) -> i32
@@ -58,9 +57,9 @@ pub extern "C" fn pv_row_sums(c: &[u8], at: usize, q: &[i16], out: &mut [u32]) -
     requires { ⌜ Small (now q) ⌝ }
     ensures { λ r. ⌜ r ≡ dot (part (length (now (q .entry))) (codes (now (c .entry))) at) (now (q .entry)) ⌝ }
     ensures { λ r. ⌜ getD (now (out .exit)) 0 0 ≡ squares (part (length (now (q .entry))) (codes (now (c .entry))) at) ⌝ }
-    ensures { λ r. ⌜ getD (now (out .exit)) 1 0 ≡ cond (within 127 (part (length (now (q .entry))) (codes (now (c .entry))) at)) 1 0 ⌝ }
+    ensures { λ r. ⌜ getD (now (out .exit)) 1 0 ≡ cond (within baseLevels (part (length (now (q .entry))) (codes (now (c .entry))) at)) 1 0 ⌝ }
 {
-    let t = codes::row_sums(c, at, q);
+    let t = codes::row_sums(quantization::BASE_LEVELS as u8, c, at, q);
     out[0] = t.squares;
     out[1] = t.whole as u32;
     t.dot
@@ -72,9 +71,9 @@ pub extern "C" fn pv_row_sums_resident(c: &[i8], at: usize, q: &[i16], out: &mut
     requires { ⌜ Small (now q) ⌝ }
     ensures { λ r. ⌜ r ≡ dot (part (length (now (q .entry))) (now (c .entry)) at) (now (q .entry)) ⌝ }
     ensures { λ r. ⌜ getD (now (out .exit)) 0 0 ≡ squares (part (length (now (q .entry))) (now (c .entry)) at) ⌝ }
-    ensures { λ r. ⌜ getD (now (out .exit)) 1 0 ≡ cond (within 127 (part (length (now (q .entry))) (now (c .entry)) at)) 1 0 ⌝ }
+    ensures { λ r. ⌜ getD (now (out .exit)) 1 0 ≡ cond (within baseLevels (part (length (now (q .entry))) (now (c .entry)) at)) 1 0 ⌝ }
 {
-    let t = codes::row_sums_resident(c, at, q);
+    let t = codes::row_sums_resident(quantization::BASE_LEVELS as u8, c, at, q);
     out[0] = t.squares;
     out[1] = t.whole as u32;
     t.dot
@@ -84,9 +83,9 @@ pub extern "C" fn pv_row_sums_resident(c: &[i8], at: usize, q: &[i16], out: &mut
 pub extern "C" fn pv_row_check(c: &[u8], at: usize, n: usize, out: &mut [u32])
     requires { ⌜ (at + n ≤ length (now c)) × (n ≤ 65536) × (length (now out) ≡ 2) ⌝ }
     ensures { λ _. ⌜ getD (now (out .exit)) 0 0 ≡ squares (part n (codes (now (c .entry))) at) ⌝ }
-    ensures { λ _. ⌜ getD (now (out .exit)) 1 0 ≡ cond (within 127 (part n (codes (now (c .entry))) at)) 1 0 ⌝ }
+    ensures { λ _. ⌜ getD (now (out .exit)) 1 0 ≡ cond (within baseLevels (part n (codes (now (c .entry))) at)) 1 0 ⌝ }
 {
-    let t = codes::row_check(c, at, n);
+    let t = codes::row_check(quantization::BASE_LEVELS as u8, c, at, n);
     out[0] = t.squares;
     out[1] = t.whole as u32;
 }
@@ -95,9 +94,9 @@ pub extern "C" fn pv_row_check(c: &[u8], at: usize, n: usize, out: &mut [u32])
 pub extern "C" fn pv_row_check_resident(c: &[i8], at: usize, n: usize, out: &mut [u32])
     requires { ⌜ (at + n ≤ length (now c)) × (n ≤ 65536) × (length (now out) ≡ 2) ⌝ }
     ensures { λ _. ⌜ getD (now (out .exit)) 0 0 ≡ squares (part n (now (c .entry)) at) ⌝ }
-    ensures { λ _. ⌜ getD (now (out .exit)) 1 0 ≡ cond (within 127 (part n (now (c .entry)) at)) 1 0 ⌝ }
+    ensures { λ _. ⌜ getD (now (out .exit)) 1 0 ≡ cond (within baseLevels (part n (now (c .entry)) at)) 1 0 ⌝ }
 {
-    let t = codes::row_check_resident(c, at, n);
+    let t = codes::row_check_resident(quantization::BASE_LEVELS as u8, c, at, n);
     out[0] = t.squares;
     out[1] = t.whole as u32;
 }
@@ -122,9 +121,9 @@ pub extern "C" fn pv_encode_row(
     requires { ⌜ now t ≡ midpoints ⌝ }
     requires { ⌜ (16 ≤ length (now out)) × (length (now out) ≤ 4112) × (at + 4 * (length (now out) - 16) ≤ length (now s)) ⌝ }
     requires { ⌜ finites (floatsAt (length (now out) - 16) (now s) at) ≡ true ⌝ }
-    ensures { λ r. ⌜ (let e = encode 127 midpoints (floatsAt (length (now (out .entry)) - 16) (now (s .entry)) at) in (now (out .exit) ≡ rowBytes e) × (r ≡ e .scale) × (now (norm .exit) ≡ e .norm)) ⌝ }
+    ensures { λ r. ⌜ (let e = encode baseLevels midpoints (floatsAt (length (now (out .entry)) - 16) (now (s .entry)) at) in (now (out .exit) ≡ rowBytes e) × (r ≡ e .scale) × (now (norm .exit) ≡ e .norm)) ⌝ }
 {
-    let r = quantization::encode_row(t, s, at, out);
+    let r = quantization::encode_row(t, quantization::BASE_LEVELS, s, at, out);
     let n = r.norm;
     *norm = n;
     r.scale
@@ -141,9 +140,9 @@ pub extern "C" fn pv_encode_resident(
     requires { ⌜ now t ≡ midpoints ⌝ }
     requires { ⌜ (length (now out) ≤ 4096) × (at + 4 * length (now out) ≤ length (now s)) ⌝ }
     requires { ⌜ finites (floatsAt (length (now out)) (now s) at) ≡ true ⌝ }
-    ensures { λ r. ⌜ (let e = encode 127 midpoints (floatsAt (length (now (out .entry))) (now (s .entry)) at) in (now (out .exit) ≡ e .codes) × (r ≡ e .scale) × (now (norm .exit) ≡ e .norm)) ⌝ }
+    ensures { λ r. ⌜ (let e = encode baseLevels midpoints (floatsAt (length (now (out .entry))) (now (s .entry)) at) in (now (out .exit) ≡ e .codes) × (r ≡ e .scale) × (now (norm .exit) ≡ e .norm)) ⌝ }
 {
-    let r = quantization::encode_resident(t, s, at, out);
+    let r = quantization::encode_resident(t, quantization::BASE_LEVELS, s, at, out);
     let n = r.norm;
     *norm = n;
     r.scale
@@ -154,9 +153,9 @@ pub extern "C" fn pv_encode_query(t: &[f64; 127], v: &[f32], out: &mut [i16], no
     requires { ⌜ now t ≡ midpoints ⌝ }
     requires { ⌜ (length (now v) ≤ 4096) × (length (now v) ≤ length (now out)) ⌝ }
     requires { ⌜ finites (now v) ≡ true ⌝ }
-    ensures { λ r. ⌜ (let e = encode 127 midpoints (now (v .entry)) in (now (out .exit) ≡ e .codes ++ drop (length (now (v .entry))) (now (out .entry))) × (r ≡ e .scale) × (now (norm .exit) ≡ e .norm)) ⌝ }
+    ensures { λ r. ⌜ (let e = encode baseLevels midpoints (now (v .entry)) in (now (out .exit) ≡ e .codes ++ drop (length (now (v .entry))) (now (out .entry))) × (r ≡ e .scale) × (now (norm .exit) ≡ e .norm)) ⌝ }
 {
-    let r = quantization::encode_query(t, v, out);
+    let r = quantization::encode_query(t, quantization::BASE_LEVELS, v, out);
     let n = r.norm;
     *norm = n;
     r.scale
@@ -356,7 +355,7 @@ pub extern "C" fn pv_build(
     norms: &mut [i64],
     place: &mut u64,
 ) -> u32
-    ensures { λ r. ⌜ (let refusal = buildRefusal (now (manifest .entry)) «expected_crc» (length (now (scratch .entry))) (now (segments .entry)) (length (now (codes .entry))) (length (now (scales .entry))) (length (now (norms .entry))) in (r ≡ refusal .number) × (now (place .exit) ≡ refusal .place) × (now (codes .exit) ≡ codesAfter (now (manifest .entry)) (now (segments .entry)) refusal (now (codes .entry))) × (now (scales .exit) ≡ scalesAfter (now (manifest .entry)) (now (segments .entry)) refusal (now (scales .entry))) × (now (norms .exit) ≡ normsAfter (now (manifest .entry)) (now (segments .entry)) refusal (now (norms .entry)))) ⌝ }
+    ensures { λ r. ⌜ (let refusal = buildRefusal (now (manifest .entry)) «expected_crc» (length (now (scratch .entry))) (now (segments .entry)) (length (now (codes .entry))) (length (now (scales .entry))) (length (now (norms .entry))) in (r ≡ refusal .number) × (now (place .exit) ≡ refusal .place) × (now (codes .exit) ≡ codesAfter baseLevels midpoints (now (manifest .entry)) (now (segments .entry)) refusal (now (codes .entry))) × (now (scales .exit) ≡ scalesAfter baseLevels midpoints (now (manifest .entry)) (now (segments .entry)) refusal (now (scales .entry))) × (now (norms .exit) ≡ normsAfter baseLevels midpoints (now (manifest .entry)) (now (segments .entry)) refusal (now (norms .entry)))) ⌝ }
     ensures { λ r. ⌜ now (scratch .exit) ≡ scratchAfter (now (manifest .entry)) «expected_crc» (now (scratch .entry)) ⌝ }
 {
     let built = resident::build(

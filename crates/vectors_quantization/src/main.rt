@@ -5,7 +5,7 @@ ghost use mathlib.Core.Bool.{true};
 ghost use Prim.Native.Nat.{_≤_};
 ghost use lib.IntN.{natAbs};
 ghost use Rattle.config.specs.Vector.{finites, floatsAt};
-ghost use Rattle.codes.specs.Sums.{Small};
+ghost use Rattle.codes.specs.Codes.{Small};
 ghost use Rattle.quantization.specs.Encoder.{midpoints};
 use config::Metric;
 use config::MetricAnswer;
@@ -72,7 +72,7 @@ fn encoder_line(t: &[f64; 127], s: &[u8; 172], out: &mut [u8; 59])
     requires { ⌜ now t ≡ midpoints ⌝ }
 {
     if config::validate_record(Metric::SquaredL2, s, 0, 43) {
-        quantization::encode_row(t, s, 0, out);
+        quantization::encode_row(t, quantization::BASE_LEVELS, s, 0, out);
         print_row(out);
     }
 }
@@ -82,7 +82,17 @@ fn answer(metric: Metric, row: &[u8; 59], codes: &[i16; 43], query: Row) -> RowA
     requires { ⌜ (natAbs (query .norm) ≤ 9007199254740992) × Small (now codes) ⌝ }
 {
     let root = row::norm_root(query.norm);
-    row::cached_row(metric, row, 0, codes, query, root, true, 0)
+    row::cached_row(
+        quantization::BASE_LEVELS,
+        metric,
+        row,
+        0,
+        codes,
+        query,
+        root,
+        true,
+        0,
+    )
 }
 
 fn print_answer(r: RowAnswer) {
@@ -110,7 +120,7 @@ fn approximate_line(
     requires { ⌜ now t ≡ midpoints ⌝ }
 {
     if config::validate_vector(metric, 43, q) {
-        let query = quantization::encode_query(t, q, codes);
+        let query = quantization::encode_query(t, quantization::BASE_LEVELS, q, codes);
         print_answer(answer(metric, row, codes, query));
     }
 }

@@ -8,6 +8,7 @@ pub pv-row-check-spec : {M : Type 1} → statement M
 pv-row-check-spec =
     tie.close
     (tie.spec
+    (λ c. search needs)
     (λ c κs. search needs)
     (λ c. search needs)
     (λ c. search needs)

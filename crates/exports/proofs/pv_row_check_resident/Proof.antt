@@ -8,6 +8,7 @@ pub pv-row-check-resident-spec : {M : Type 1} → statement M
 pv-row-check-resident-spec =
     tie.close
     (tie.spec
+    (λ c. search needs)
     (λ c κs. search needs)
     (λ c. search needs)
     (λ c. search needs)

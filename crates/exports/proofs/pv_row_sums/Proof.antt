@@ -9,6 +9,7 @@ pub pv-row-sums-spec : {M : Type 1} → statement M
 pv-row-sums-spec =
     tie.close
     (tie.spec
+    (λ c. search needs)
     (λ c κs. search needs)
     (λ c. search needs)
     (λ c. search needs)

@@ -4,7 +4,8 @@ use mathlib.Core.List.{append-nil}
 use native.Mathlib.Omega.{arith}
 use lib.Dec.{lit≤}
 use lib.ListN.{length, drop-of-length-le}
-use Rattle.quantization.proofs.Encoded.{norm-most, code-at}
+use Rattle.quantization.specs.Encoder.{baseLevels, midpoints}
+use Rattle.quantization.proofs.Encoded.{norm-most, code-at, base, base-count}
 use mathlib.Core.Path.{sym, _∙_}
 use Rattle.config.proofs.Coordinates.{valid-parts}
 use native.Mathlib.Omega.{arith}
@@ -18,13 +19,13 @@ approximate-line-spec =
     (tie.spec
     (λ c κs. search needs)
     (λ c κs. let b = c .before .before .before .before .before in
-    (b .pre, (search needs, valid-parts (b .args .metric) 43 (b .args .q .now) (sym (c .before .before .before .validate-vector .ensures) ∙ c .before .before .if1 .taken) .1)))
+    ((b .pre, base), (search needs, valid-parts (b .args .metric) 43 (b .args .q .now) (sym (c .before .before .before .validate-vector .ensures) ∙ c .before .before .if1 .taken) .1)))
     (λ c κs. let b = c .before .before .before .before .before .before .before in
     let v = b .args .q .now in
     let e = c .before .encode-query .ensures in
     let n : length v ≡ 43 = omega arith in
     let m : length (b .args .codes .now) ≡ 43 = omega arith in
-    (rw (e .2) (omega (arith, norm-most v)), rw (e .0, drop-of-length-le (b .args .codes .now) {i = length v} (omega arith), append-nil) (record { at = λ k. le-trans (code-at v k) (lit≤ tt) })))
+    (rw (e .2) (omega (arith, norm-most baseLevels midpoints base-count v)), rw (e .0, drop-of-length-le (b .args .codes .now) {i = length v} (omega arith), append-nil) (record { at = λ k. le-trans (code-at baseLevels midpoints base-count v k) (lit≤ tt) })))
     (λ c κs. search needs)
     (λ c. search needs)
     (λ c. search needs))

@@ -3,6 +3,7 @@ use mathlib.Core.Path.{_≡_}
 use native.Mathlib.Omega.{arith}
 use lib.ListN.{length}
 use mathlib.Core.Path.{sym, _∙_}
+use Rattle.quantization.proofs.Encoded.{base}
 use Rattle.config.specs.declared.Metric.the-variants.{SquaredL2}
 use Rattle.config.specs.Vector.{floatsAt}
 use Rattle.config.proofs.Coordinates.{valid-parts}
@@ -18,7 +19,7 @@ encoder-line-spec =
     (λ c κs. search needs)
     (λ c κs. let b = c .before .before .before .before .before in
     let e : length (b .args .out .now) - 16 ≡ 43 = omega arith in
-    (b .pre, (search needs, rw e (valid-parts SquaredL2 43 (floatsAt 43 (b .args .s .now) 0) (sym (c .before .before .before .validate-record .ensures) ∙ c .before .before .if1 .taken) .1))))
+    ((b .pre, base), (search needs, rw e (valid-parts SquaredL2 43 (floatsAt 43 (b .args .s .now) 0) (sym (c .before .before .before .validate-record .ensures) ∙ c .before .before .if1 .taken) .1))))
     (λ c κs. search needs)
     (λ c. search needs)
     (λ c. search needs))
