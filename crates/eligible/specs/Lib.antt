@@ -1,0 +1,2 @@
+-- A cursor in the sorted ids that finds the eligible rows.
+pub mod Walk
