@@ -1,0 +1,2 @@
+-- Rows that are too far under cosine.
+pub mod Far
