@@ -1,0 +1,4 @@
+-- The scan of a search.
+pub mod Scan
+pub mod Bar
+pub mod Far
