@@ -1,0 +1,5 @@
+-- Laws that belong to no one function.
+pub mod Fits
+pub mod Records
+pub mod Measured
+pub mod Ranked
