@@ -1,0 +1,2 @@
+-- The candidates of a search, scanned and reranked.
+pub mod Shortlist
