@@ -16,4 +16,3 @@ pub mod Down
 pub mod Bounded
 pub mod Two
 pub mod Scan
-pub mod Late
