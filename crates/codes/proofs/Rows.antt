@@ -170,6 +170,14 @@ pub sums-add : {levels : ℕ} {n m N : ℕ} {xs : List ℤ} {at : ℕ} {ys : Lis
 sums-add e g j A B =
     record { dotted = dot-add e g (j .dotted) (A .dotted) (B .dotted); checked = check-add e g (j .checked) (A .checked) (B .checked) }
 
+-- another name of the place
+pub check-at : {levels : ℕ} {n N : ℕ} {xs : List ℤ} {at i w : ℕ} {b : Bool} → N ≡ n → Checked levels n xs at i w b → Checked levels N xs at i w b
+check-at e A = rw e A
+
+pub sums-at : {levels : ℕ} {n N : ℕ} {xs : List ℤ} {at : ℕ} {ys : List ℤ} {i : ℕ} {r : Sums} → N ≡ n → Summed levels n xs at ys i r
+    → Summed levels N xs at ys i r
+sums-at e A = rw e A
+
 pub check-done : (n : ℕ) {levels : ℕ} {N : ℕ} {xs : List ℤ} {at i : ℕ} {r : Check} → N ≡ n → i ≡ 0 → Checked levels N xs at i (r .squares) (r .whole) → RowCheck levels (part n xs at) r
 check-done n {at = at} {i} e f A =
     let g : at + i ≡ at = omega arith in

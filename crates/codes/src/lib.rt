@@ -3,12 +3,13 @@
 // A row is cached (bytes in two's complement) or resident (signed numbers); the query's codes are widened to i16 once.
 // From quantized_cache.rs, `dot_codes` and `validate_row`, and the search loop of quantization.rs.
 //
-// A row is summed in parts of 16 codes, four or eight a turn: loops of constant length, which LLVM unrolls and vectorises, and
-// whose sums it then adds in vectors, once a turn. The turns shorten to 64, 32 and 16 codes; a rest of 1 to 15 is summed as the
-// row's last 16 codes, those already summed taken as 0. A row of fewer than 16 goes by 8 codes and one by one. Each part's
-// function adds to the sums so far, so that its contract speaks of the row up to a place; all of them are inlined. That the
-// codes left are counted down lets LLVM see that the shorter turns run once. The order of the structs' fields, and of the
-// operations on them, decides whether the vectoriser takes all sums: measure each change, with the levels a literal and not.
+// A row is summed in parts of 16 codes: loops of constant length, which LLVM unrolls and vectorises. An odd part of 16 comes first,
+// then the turns of several parts, whose sums LLVM adds in vectors, once a turn. A rest of 1 to 15 is summed as the row's last 16
+// codes, those already summed taken as 0; a row of fewer than 16 goes by 8 codes and one by one. Each function adds to the sums so
+// far, so that its contract speaks of the row up to a place; all of them are inlined.
+// LLVM vectorises a sum only if one place uses it. So no turn may be implied by another one's not having run (`row_sums` has its odd
+// turn of 32 before those of 64), and a turn has one caller. The order of the structs' fields, and of the operations on them, matters
+// too: measure each change, with the levels a literal and not.
 ghost use mathlib.Core.Path.{_≡_};
 ghost use Prim.Native.Nat.{_+_, _-_, _*_, _≤_, _<_};
 ghost use lib.IntN.{natAbs, pos, _*ℤ_};
@@ -72,9 +73,9 @@ fn add_code(levels: u8, s: Sums, x: i8, y: i16) -> Sums
     ensures { λ r. ⌜ CodeAdded levels x y s r ⌝ }
 {
     Sums {
+        whole: s.whole & within(levels, x),
         dot: s.dot + product(x, y),
         squares: s.squares + square(x),
-        whole: s.whole & within(levels, x),
     }
 }
 
@@ -93,9 +94,9 @@ fn add_sums(a: Sums, b: Sums) -> Sums
     ensures { λ r. ⌜ SumsAdded a b r ⌝ }
 {
     Sums {
+        whole: a.whole & b.whole,
         dot: a.dot + b.dot,
         squares: a.squares + b.squares,
-        whole: a.whole & b.whole,
     }
 }
 
@@ -104,8 +105,8 @@ fn add_checks(a: Check, b: Check) -> Check
     ensures { λ r. ⌜ ChecksAdded (a .squares) (b .squares) (r .squares) (a .whole) (b .whole) (r .whole) ⌝ }
 {
     Check {
-        whole: a.whole & b.whole,
         squares: a.squares + b.squares,
+        whole: a.whole & b.whole,
     }
 }
 
@@ -169,6 +170,126 @@ fn check_part(levels: u8, c: &[u8], at: usize, a: Check, i: usize, e: usize, n: 
     add_checks(a, s)
 }
 
+// A turn: the sums up to the turn's end, given those up to place i. Each turn has one caller, so that LLVM inlines it.
+fn sums_32(levels: u8, c: &[u8], at: usize, q: &[i16], s: Sums, i: usize) -> Sums
+    requires { ⌜ (at + length (now q) ≤ length (now c)) × (length (now q) ≤ 65536) × (levels ≤ 127) × (i + 32 ≤ length (now q)) ⌝ }
+    requires { ⌜ Small (now q) × Summed levels i (codes (now c)) at (now q) 0 s ⌝ }
+    ensures { λ r. ⌜ Summed levels (i + 32) (codes (now (c .entry))) at (now (q .entry)) 0 r ⌝ }
+{
+    let s1 = sums_part(levels, c, at, q, s, i, i + 16, 16);
+    sums_part(levels, c, at, q, s1, i + 16, i + 32, 16)
+}
+
+fn sums_64(levels: u8, c: &[u8], at: usize, q: &[i16], s: Sums, i: usize) -> Sums
+    requires { ⌜ (at + length (now q) ≤ length (now c)) × (length (now q) ≤ 65536) × (levels ≤ 127) × (i + 64 ≤ length (now q)) ⌝ }
+    requires { ⌜ Small (now q) × Summed levels i (codes (now c)) at (now q) 0 s ⌝ }
+    ensures { λ r. ⌜ Summed levels (i + 64) (codes (now (c .entry))) at (now (q .entry)) 0 r ⌝ }
+{
+    let s1 = sums_part(levels, c, at, q, s, i, i + 16, 16);
+    let s2 = sums_part(levels, c, at, q, s1, i + 16, i + 32, 16);
+    let s3 = sums_part(levels, c, at, q, s2, i + 32, i + 48, 16);
+    sums_part(levels, c, at, q, s3, i + 48, i + 64, 16)
+}
+
+fn check_32(levels: u8, c: &[u8], at: usize, s: Check, i: usize) -> Check
+    requires { ⌜ (at + i + 32 ≤ length (now c)) × (i + 32 ≤ 65536) × (levels ≤ 127) ⌝ }
+    requires { ⌜ Checked levels i (codes (now c)) at 0 (s .squares) (s .whole) ⌝ }
+    ensures { λ r. ⌜ Checked levels (i + 32) (codes (now (c .entry))) at 0 (r .squares) (r .whole) ⌝ }
+{
+    let s1 = check_part(levels, c, at, s, i, i + 16, 16);
+    check_part(levels, c, at, s1, i + 16, i + 32, 16)
+}
+
+fn check_64(levels: u8, c: &[u8], at: usize, s: Check, i: usize) -> Check
+    requires { ⌜ (at + i + 64 ≤ length (now c)) × (i + 64 ≤ 65536) × (levels ≤ 127) ⌝ }
+    requires { ⌜ Checked levels i (codes (now c)) at 0 (s .squares) (s .whole) ⌝ }
+    ensures { λ r. ⌜ Checked levels (i + 64) (codes (now (c .entry))) at 0 (r .squares) (r .whole) ⌝ }
+{
+    let s1 = check_part(levels, c, at, s, i, i + 16, 16);
+    let s2 = check_part(levels, c, at, s1, i + 16, i + 32, 16);
+    let s3 = check_part(levels, c, at, s2, i + 32, i + 48, 16);
+    check_part(levels, c, at, s3, i + 48, i + 64, 16)
+}
+
+fn check_128(levels: u8, c: &[u8], at: usize, s: Check, i: usize) -> Check
+    requires { ⌜ (at + i + 128 ≤ length (now c)) × (i + 128 ≤ 65536) × (levels ≤ 127) ⌝ }
+    requires { ⌜ Checked levels i (codes (now c)) at 0 (s .squares) (s .whole) ⌝ }
+    ensures { λ r. ⌜ Checked levels (i + 128) (codes (now (c .entry))) at 0 (r .squares) (r .whole) ⌝ }
+{
+    let s1 = check_part(levels, c, at, s, i, i + 16, 16);
+    let s2 = check_part(levels, c, at, s1, i + 16, i + 32, 16);
+    let s3 = check_part(levels, c, at, s2, i + 32, i + 48, 16);
+    let s4 = check_part(levels, c, at, s3, i + 48, i + 64, 16);
+    let s5 = check_part(levels, c, at, s4, i + 64, i + 80, 16);
+    let s6 = check_part(levels, c, at, s5, i + 80, i + 96, 16);
+    let s7 = check_part(levels, c, at, s6, i + 96, i + 112, 16);
+    check_part(levels, c, at, s7, i + 112, i + 128, 16)
+}
+
+// The row's last codes, from place i on, one by one.
+fn sums_ones(levels: u8, c: &[u8], at: usize, q: &[i16], a: Sums, i: usize) -> Sums
+    requires { ⌜ (at + length (now q) ≤ length (now c)) × (length (now q) ≤ 65536) × (levels ≤ 127) × (i ≤ length (now q)) ⌝ }
+    requires { ⌜ Small (now q) × Summed levels i (codes (now c)) at (now q) 0 a ⌝ }
+    ensures { λ r. ⌜ Summed levels (length (now (q .entry))) (codes (now (c .entry))) at (now (q .entry)) 0 r ⌝ }
+{
+    let n = q.len();
+    let mut s = a;
+    let mut j = i;
+    while j < n {
+        s = sums_part(levels, c, at, q, s, j, j + 1, 1);
+        j += 1;
+    }
+    s
+}
+
+// The same without the query, up to place n.
+fn check_ones(levels: u8, c: &[u8], at: usize, n: usize, a: Check, i: usize) -> Check
+    requires { ⌜ (at + n ≤ length (now c)) × (n ≤ 65536) × (levels ≤ 127) × (i ≤ n) ⌝ }
+    requires { ⌜ Checked levels i (codes (now c)) at 0 (a .squares) (a .whole) ⌝ }
+    ensures { λ r. ⌜ Checked levels n (codes (now (c .entry))) at 0 (r .squares) (r .whole) ⌝ }
+{
+    let mut s = a;
+    let mut j = i;
+    while j < n {
+        s = check_part(levels, c, at, s, j, j + 1, 1);
+        j += 1;
+    }
+    s
+}
+
+// A row of fewer than 16 codes: 8 at once where there are as many, the others one by one.
+fn short_sums(levels: u8, c: &[u8], at: usize, q: &[i16]) -> Sums
+    requires { ⌜ (at + length (now q) ≤ length (now c)) × (length (now q) ≤ 65536) × (levels ≤ 127) ⌝ }
+    requires { ⌜ Small (now q) ⌝ }
+    ensures { λ r. ⌜ Summed levels (length (now (q .entry))) (codes (now (c .entry))) at (now (q .entry)) 0 r ⌝ }
+{
+    let s = Sums {
+        dot: 0,
+        squares: 0,
+        whole: true,
+    };
+    if q.len() < 8 {
+        return sums_ones(levels, c, at, q, s, 0);
+    }
+    let t = sums_part(levels, c, at, q, s, 0, 8, 8);
+    sums_ones(levels, c, at, q, t, 8)
+}
+
+fn short_check(levels: u8, c: &[u8], at: usize, n: usize) -> Check
+    requires { ⌜ (at + n ≤ length (now c)) × (n ≤ 65536) × (levels ≤ 127) ⌝ }
+    ensures { λ r. ⌜ Checked levels n (codes (now (c .entry))) at 0 (r .squares) (r .whole) ⌝ }
+{
+    let s = Check {
+        squares: 0,
+        whole: true,
+    };
+    if n < 8 {
+        return check_ones(levels, c, at, n, s, 0);
+    }
+    let t = check_part(levels, c, at, s, 0, 8, 8);
+    check_ones(levels, c, at, n, t, 8)
+}
+
 // The row at `at`, as long as the query.
 pub fn row_sums(levels: u8, c: &[u8], at: usize, q: &[i16]) -> Sums
     requires { ⌜ (at + length (now q) ≤ length (now c)) × (length (now q) ≤ 65536) × (levels ≤ 127) ⌝ }
@@ -176,46 +297,32 @@ pub fn row_sums(levels: u8, c: &[u8], at: usize, q: &[i16]) -> Sums
     ensures { λ r. ⌜ RowSums levels (part (length (now (q .entry))) (codes (now (c .entry))) at) (now (q .entry)) r ⌝ }
 {
     let n = q.len();
+    if n < 16 {
+        return short_sums(levels, c, at, q);
+    }
     let mut s = Sums {
         dot: 0,
         squares: 0,
         whole: true,
     };
     let mut i = 0usize;
-    if n < 16 {
-        while i + 8 <= n {
-            s = sums_part(levels, c, at, q, s, i, i + 8, 8);
-            i += 8;
-        }
-        while i < n {
-            s = sums_part(levels, c, at, q, s, i, i + 1, 1);
-            i += 1;
-        }
-        return s;
-    }
     let mut r = n;
-    while 64 <= r {
-        s = sums_part(levels, c, at, q, s, i, i + 16, 16);
-        i += 16;
-        s = sums_part(levels, c, at, q, s, i, i + 16, 16);
-        i += 16;
-        s = sums_part(levels, c, at, q, s, i, i + 16, 16);
-        i += 16;
-        s = sums_part(levels, c, at, q, s, i, i + 16, 16);
-        i += 16;
-        r -= 64;
-    }
-    while 32 <= r {
-        s = sums_part(levels, c, at, q, s, i, i + 16, 16);
-        i += 16;
-        s = sums_part(levels, c, at, q, s, i, i + 16, 16);
-        i += 16;
-        r -= 32;
-    }
-    while 16 <= r {
+    if 16 <= r % 32 {
         s = sums_part(levels, c, at, q, s, i, i + 16, 16);
         i += 16;
         r -= 16;
+    }
+    if 32 <= r {
+        if 32 <= r % 64 {
+            s = sums_32(levels, c, at, q, s, i);
+            i += 32;
+            r -= 32;
+        }
+        while 64 <= r {
+            s = sums_64(levels, c, at, q, s, i);
+            i += 64;
+            r -= 64;
+        }
     }
     if r == 0 {
         return s;
@@ -228,64 +335,36 @@ pub fn row_check(levels: u8, c: &[u8], at: usize, n: usize) -> Check
     requires { ⌜ (at + n ≤ length (now c)) × (n ≤ 65536) × (levels ≤ 127) ⌝ }
     ensures { λ r. ⌜ RowCheck levels (part n (codes (now (c .entry))) at) r ⌝ }
 {
+    if n < 16 {
+        return short_check(levels, c, at, n);
+    }
     let mut s = Check {
         squares: 0,
         whole: true,
     };
     let mut i = 0usize;
-    if n < 16 {
-        while i + 8 <= n {
-            s = check_part(levels, c, at, s, i, i + 8, 8);
-            i += 8;
-        }
-        while i < n {
-            s = check_part(levels, c, at, s, i, i + 1, 1);
-            i += 1;
-        }
-        return s;
-    }
     let mut r = n;
-    while 128 <= r {
-        s = check_part(levels, c, at, s, i, i + 16, 16);
-        i += 16;
-        s = check_part(levels, c, at, s, i, i + 16, 16);
-        i += 16;
-        s = check_part(levels, c, at, s, i, i + 16, 16);
-        i += 16;
-        s = check_part(levels, c, at, s, i, i + 16, 16);
-        i += 16;
-        s = check_part(levels, c, at, s, i, i + 16, 16);
-        i += 16;
-        s = check_part(levels, c, at, s, i, i + 16, 16);
-        i += 16;
-        s = check_part(levels, c, at, s, i, i + 16, 16);
-        i += 16;
-        s = check_part(levels, c, at, s, i, i + 16, 16);
-        i += 16;
-        r -= 128;
-    }
-    while 64 <= r {
-        s = check_part(levels, c, at, s, i, i + 16, 16);
-        i += 16;
-        s = check_part(levels, c, at, s, i, i + 16, 16);
-        i += 16;
-        s = check_part(levels, c, at, s, i, i + 16, 16);
-        i += 16;
-        s = check_part(levels, c, at, s, i, i + 16, 16);
-        i += 16;
-        r -= 64;
-    }
-    while 32 <= r {
-        s = check_part(levels, c, at, s, i, i + 16, 16);
-        i += 16;
-        s = check_part(levels, c, at, s, i, i + 16, 16);
-        i += 16;
-        r -= 32;
-    }
-    while 16 <= r {
+    if 16 <= r % 32 {
         s = check_part(levels, c, at, s, i, i + 16, 16);
         i += 16;
         r -= 16;
+    }
+    if 32 <= r {
+        while 128 <= r {
+            s = check_128(levels, c, at, s, i);
+            i += 128;
+            r -= 128;
+        }
+        while 64 <= r {
+            s = check_64(levels, c, at, s, i);
+            i += 64;
+            r -= 64;
+        }
+        while 32 <= r {
+            s = check_32(levels, c, at, s, i);
+            i += 32;
+            r -= 32;
+        }
     }
     if r == 0 {
         return s;
@@ -354,6 +433,126 @@ fn check_part_resident(
     add_checks(a, s)
 }
 
+// A turn: the sums up to the turn's end, given those up to place i. Each turn has one caller, so that LLVM inlines it.
+fn sums_32_resident(levels: u8, c: &[i8], at: usize, q: &[i16], s: Sums, i: usize) -> Sums
+    requires { ⌜ (at + length (now q) ≤ length (now c)) × (length (now q) ≤ 65536) × (levels ≤ 127) × (i + 32 ≤ length (now q)) ⌝ }
+    requires { ⌜ Small (now q) × Summed levels i (now c) at (now q) 0 s ⌝ }
+    ensures { λ r. ⌜ Summed levels (i + 32) (now (c .entry)) at (now (q .entry)) 0 r ⌝ }
+{
+    let s1 = sums_part_resident(levels, c, at, q, s, i, i + 16, 16);
+    sums_part_resident(levels, c, at, q, s1, i + 16, i + 32, 16)
+}
+
+fn sums_64_resident(levels: u8, c: &[i8], at: usize, q: &[i16], s: Sums, i: usize) -> Sums
+    requires { ⌜ (at + length (now q) ≤ length (now c)) × (length (now q) ≤ 65536) × (levels ≤ 127) × (i + 64 ≤ length (now q)) ⌝ }
+    requires { ⌜ Small (now q) × Summed levels i (now c) at (now q) 0 s ⌝ }
+    ensures { λ r. ⌜ Summed levels (i + 64) (now (c .entry)) at (now (q .entry)) 0 r ⌝ }
+{
+    let s1 = sums_part_resident(levels, c, at, q, s, i, i + 16, 16);
+    let s2 = sums_part_resident(levels, c, at, q, s1, i + 16, i + 32, 16);
+    let s3 = sums_part_resident(levels, c, at, q, s2, i + 32, i + 48, 16);
+    sums_part_resident(levels, c, at, q, s3, i + 48, i + 64, 16)
+}
+
+fn check_32_resident(levels: u8, c: &[i8], at: usize, s: Check, i: usize) -> Check
+    requires { ⌜ (at + i + 32 ≤ length (now c)) × (i + 32 ≤ 65536) × (levels ≤ 127) ⌝ }
+    requires { ⌜ Checked levels i (now c) at 0 (s .squares) (s .whole) ⌝ }
+    ensures { λ r. ⌜ Checked levels (i + 32) (now (c .entry)) at 0 (r .squares) (r .whole) ⌝ }
+{
+    let s1 = check_part_resident(levels, c, at, s, i, i + 16, 16);
+    check_part_resident(levels, c, at, s1, i + 16, i + 32, 16)
+}
+
+fn check_64_resident(levels: u8, c: &[i8], at: usize, s: Check, i: usize) -> Check
+    requires { ⌜ (at + i + 64 ≤ length (now c)) × (i + 64 ≤ 65536) × (levels ≤ 127) ⌝ }
+    requires { ⌜ Checked levels i (now c) at 0 (s .squares) (s .whole) ⌝ }
+    ensures { λ r. ⌜ Checked levels (i + 64) (now (c .entry)) at 0 (r .squares) (r .whole) ⌝ }
+{
+    let s1 = check_part_resident(levels, c, at, s, i, i + 16, 16);
+    let s2 = check_part_resident(levels, c, at, s1, i + 16, i + 32, 16);
+    let s3 = check_part_resident(levels, c, at, s2, i + 32, i + 48, 16);
+    check_part_resident(levels, c, at, s3, i + 48, i + 64, 16)
+}
+
+fn check_128_resident(levels: u8, c: &[i8], at: usize, s: Check, i: usize) -> Check
+    requires { ⌜ (at + i + 128 ≤ length (now c)) × (i + 128 ≤ 65536) × (levels ≤ 127) ⌝ }
+    requires { ⌜ Checked levels i (now c) at 0 (s .squares) (s .whole) ⌝ }
+    ensures { λ r. ⌜ Checked levels (i + 128) (now (c .entry)) at 0 (r .squares) (r .whole) ⌝ }
+{
+    let s1 = check_part_resident(levels, c, at, s, i, i + 16, 16);
+    let s2 = check_part_resident(levels, c, at, s1, i + 16, i + 32, 16);
+    let s3 = check_part_resident(levels, c, at, s2, i + 32, i + 48, 16);
+    let s4 = check_part_resident(levels, c, at, s3, i + 48, i + 64, 16);
+    let s5 = check_part_resident(levels, c, at, s4, i + 64, i + 80, 16);
+    let s6 = check_part_resident(levels, c, at, s5, i + 80, i + 96, 16);
+    let s7 = check_part_resident(levels, c, at, s6, i + 96, i + 112, 16);
+    check_part_resident(levels, c, at, s7, i + 112, i + 128, 16)
+}
+
+// The row's last codes, from place i on, one by one.
+fn sums_ones_resident(levels: u8, c: &[i8], at: usize, q: &[i16], a: Sums, i: usize) -> Sums
+    requires { ⌜ (at + length (now q) ≤ length (now c)) × (length (now q) ≤ 65536) × (levels ≤ 127) × (i ≤ length (now q)) ⌝ }
+    requires { ⌜ Small (now q) × Summed levels i (now c) at (now q) 0 a ⌝ }
+    ensures { λ r. ⌜ Summed levels (length (now (q .entry))) (now (c .entry)) at (now (q .entry)) 0 r ⌝ }
+{
+    let n = q.len();
+    let mut s = a;
+    let mut j = i;
+    while j < n {
+        s = sums_part_resident(levels, c, at, q, s, j, j + 1, 1);
+        j += 1;
+    }
+    s
+}
+
+// The same without the query, up to place n.
+fn check_ones_resident(levels: u8, c: &[i8], at: usize, n: usize, a: Check, i: usize) -> Check
+    requires { ⌜ (at + n ≤ length (now c)) × (n ≤ 65536) × (levels ≤ 127) × (i ≤ n) ⌝ }
+    requires { ⌜ Checked levels i (now c) at 0 (a .squares) (a .whole) ⌝ }
+    ensures { λ r. ⌜ Checked levels n (now (c .entry)) at 0 (r .squares) (r .whole) ⌝ }
+{
+    let mut s = a;
+    let mut j = i;
+    while j < n {
+        s = check_part_resident(levels, c, at, s, j, j + 1, 1);
+        j += 1;
+    }
+    s
+}
+
+// A row of fewer than 16 codes: 8 at once where there are as many, the others one by one.
+fn short_sums_resident(levels: u8, c: &[i8], at: usize, q: &[i16]) -> Sums
+    requires { ⌜ (at + length (now q) ≤ length (now c)) × (length (now q) ≤ 65536) × (levels ≤ 127) ⌝ }
+    requires { ⌜ Small (now q) ⌝ }
+    ensures { λ r. ⌜ Summed levels (length (now (q .entry))) (now (c .entry)) at (now (q .entry)) 0 r ⌝ }
+{
+    let s = Sums {
+        dot: 0,
+        squares: 0,
+        whole: true,
+    };
+    if q.len() < 8 {
+        return sums_ones_resident(levels, c, at, q, s, 0);
+    }
+    let t = sums_part_resident(levels, c, at, q, s, 0, 8, 8);
+    sums_ones_resident(levels, c, at, q, t, 8)
+}
+
+fn short_check_resident(levels: u8, c: &[i8], at: usize, n: usize) -> Check
+    requires { ⌜ (at + n ≤ length (now c)) × (n ≤ 65536) × (levels ≤ 127) ⌝ }
+    ensures { λ r. ⌜ Checked levels n (now (c .entry)) at 0 (r .squares) (r .whole) ⌝ }
+{
+    let s = Check {
+        squares: 0,
+        whole: true,
+    };
+    if n < 8 {
+        return check_ones_resident(levels, c, at, n, s, 0);
+    }
+    let t = check_part_resident(levels, c, at, s, 0, 8, 8);
+    check_ones_resident(levels, c, at, n, t, 8)
+}
+
 // The row at `at`, as long as the query.
 pub fn row_sums_resident(levels: u8, c: &[i8], at: usize, q: &[i16]) -> Sums
     requires { ⌜ (at + length (now q) ≤ length (now c)) × (length (now q) ≤ 65536) × (levels ≤ 127) ⌝ }
@@ -361,46 +560,32 @@ pub fn row_sums_resident(levels: u8, c: &[i8], at: usize, q: &[i16]) -> Sums
     ensures { λ r. ⌜ RowSums levels (part (length (now (q .entry))) (now (c .entry)) at) (now (q .entry)) r ⌝ }
 {
     let n = q.len();
+    if n < 16 {
+        return short_sums_resident(levels, c, at, q);
+    }
     let mut s = Sums {
         dot: 0,
         squares: 0,
         whole: true,
     };
     let mut i = 0usize;
-    if n < 16 {
-        while i + 8 <= n {
-            s = sums_part_resident(levels, c, at, q, s, i, i + 8, 8);
-            i += 8;
-        }
-        while i < n {
-            s = sums_part_resident(levels, c, at, q, s, i, i + 1, 1);
-            i += 1;
-        }
-        return s;
-    }
     let mut r = n;
-    while 64 <= r {
-        s = sums_part_resident(levels, c, at, q, s, i, i + 16, 16);
-        i += 16;
-        s = sums_part_resident(levels, c, at, q, s, i, i + 16, 16);
-        i += 16;
-        s = sums_part_resident(levels, c, at, q, s, i, i + 16, 16);
-        i += 16;
-        s = sums_part_resident(levels, c, at, q, s, i, i + 16, 16);
-        i += 16;
-        r -= 64;
-    }
-    while 32 <= r {
-        s = sums_part_resident(levels, c, at, q, s, i, i + 16, 16);
-        i += 16;
-        s = sums_part_resident(levels, c, at, q, s, i, i + 16, 16);
-        i += 16;
-        r -= 32;
-    }
-    while 16 <= r {
+    if 16 <= r % 32 {
         s = sums_part_resident(levels, c, at, q, s, i, i + 16, 16);
         i += 16;
         r -= 16;
+    }
+    if 32 <= r {
+        if 32 <= r % 64 {
+            s = sums_32_resident(levels, c, at, q, s, i);
+            i += 32;
+            r -= 32;
+        }
+        while 64 <= r {
+            s = sums_64_resident(levels, c, at, q, s, i);
+            i += 64;
+            r -= 64;
+        }
     }
     if r == 0 {
         return s;
@@ -413,64 +598,36 @@ pub fn row_check_resident(levels: u8, c: &[i8], at: usize, n: usize) -> Check
     requires { ⌜ (at + n ≤ length (now c)) × (n ≤ 65536) × (levels ≤ 127) ⌝ }
     ensures { λ r. ⌜ RowCheck levels (part n (now (c .entry)) at) r ⌝ }
 {
+    if n < 16 {
+        return short_check_resident(levels, c, at, n);
+    }
     let mut s = Check {
         squares: 0,
         whole: true,
     };
     let mut i = 0usize;
-    if n < 16 {
-        while i + 8 <= n {
-            s = check_part_resident(levels, c, at, s, i, i + 8, 8);
-            i += 8;
-        }
-        while i < n {
-            s = check_part_resident(levels, c, at, s, i, i + 1, 1);
-            i += 1;
-        }
-        return s;
-    }
     let mut r = n;
-    while 128 <= r {
-        s = check_part_resident(levels, c, at, s, i, i + 16, 16);
-        i += 16;
-        s = check_part_resident(levels, c, at, s, i, i + 16, 16);
-        i += 16;
-        s = check_part_resident(levels, c, at, s, i, i + 16, 16);
-        i += 16;
-        s = check_part_resident(levels, c, at, s, i, i + 16, 16);
-        i += 16;
-        s = check_part_resident(levels, c, at, s, i, i + 16, 16);
-        i += 16;
-        s = check_part_resident(levels, c, at, s, i, i + 16, 16);
-        i += 16;
-        s = check_part_resident(levels, c, at, s, i, i + 16, 16);
-        i += 16;
-        s = check_part_resident(levels, c, at, s, i, i + 16, 16);
-        i += 16;
-        r -= 128;
-    }
-    while 64 <= r {
-        s = check_part_resident(levels, c, at, s, i, i + 16, 16);
-        i += 16;
-        s = check_part_resident(levels, c, at, s, i, i + 16, 16);
-        i += 16;
-        s = check_part_resident(levels, c, at, s, i, i + 16, 16);
-        i += 16;
-        s = check_part_resident(levels, c, at, s, i, i + 16, 16);
-        i += 16;
-        r -= 64;
-    }
-    while 32 <= r {
-        s = check_part_resident(levels, c, at, s, i, i + 16, 16);
-        i += 16;
-        s = check_part_resident(levels, c, at, s, i, i + 16, 16);
-        i += 16;
-        r -= 32;
-    }
-    while 16 <= r {
+    if 16 <= r % 32 {
         s = check_part_resident(levels, c, at, s, i, i + 16, 16);
         i += 16;
         r -= 16;
+    }
+    if 32 <= r {
+        while 128 <= r {
+            s = check_128_resident(levels, c, at, s, i);
+            i += 128;
+            r -= 128;
+        }
+        while 64 <= r {
+            s = check_64_resident(levels, c, at, s, i);
+            i += 64;
+            r -= 64;
+        }
+        while 32 <= r {
+            s = check_32_resident(levels, c, at, s, i);
+            i += 32;
+            r -= 32;
+        }
     }
     if r == 0 {
         return s;
