@@ -9,7 +9,7 @@ use lib.ListN.{replicate}
 use lib.Ieee.{binary64, ofBits, add, sub, mul, div, neg, lt, le, eq, ofInt}
 use Rattle.float.specs.Values.{zero as nought, one}
 use Rattle.float.specs.Hold.{maxZero, clamp}
-use Rattle.float.specs.SquareRoot.{sqrtOf}
+use Rattle.root.specs.SquareRoot.{sqrtOf}
 use Rattle.config.specs.Refusal.{refused}
 use Rattle.config.specs.declared.Metric.the-variants.{SquaredL2}
 use Rattle.codes.specs.Codes.{dot, squares, within}

@@ -18,14 +18,14 @@ use lib.Ieee.Positive.{num, den, den-pos, through, value→cross}
 use borrow.Author.Tests.{ltb-true}
 use Rattle.float.specs.Values.{one}
 use Rattle.float.specs.Order.{negative}
-use Rattle.float.specs.SquareRoot.{Root, floorRoot, sqrtOf}
 use Rattle.row.specs.Distance.{_⊖_, _⊗_, _⊘_, whole, cosineBy}
 use Rattle.float.proofs.BitLaws.{value-finite, value-sign}
 use Rattle.float.proofs.Within.{Within, holds, half, two as power}
 use Rattle.float.proofs.Bounds.{within-refl, within-trans, within-pos, under, over-by, div-is, mul-sign, div-sign, mul-over, mul-under, div-under, sub-under, int-within, int-over, round-sign}
 use Rattle.float.proofs.Singles.{positive-of}
-use Rattle.float.proofs.SquareRoot.{Floor, floor, sqrt-root, root-fine, root-under, root-holds}
 use Rattle.float.proofs.Keys.{keyed}
+use Rattle.root.specs.SquareRoot.{Root, floorRoot, sqrtOf}
+use Rattle.root.proofs.SquareRoot.{Floor, floor, sqrt-root, root-fine, root-under, root-holds}
 use Rattle.cosine.specs.Far.{positivePart, isFar, Far}
 use Rattle.cosine.proofs.Minus.{minus-keys}
 

@@ -4,7 +4,7 @@ ghost use mathlib.Core.Path.{_≡_};
 ghost use Prim.Native.Nat.{_≤_, _<_};
 ghost use lib.IntN.{pos};
 ghost use lib.Ieee.{binary64, ofInt};
-ghost use Rattle.float.specs.SquareRoot.{sqrtOf};
+ghost use Rattle.root.specs.SquareRoot.{sqrtOf};
 ghost use Rattle.cosine.specs.Far.{positivePart, isFar, Far};
 
 fn positive_part(d: i32) -> u64

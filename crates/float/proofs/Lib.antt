@@ -9,7 +9,3 @@ pub mod Singles
 pub mod Additions
 pub mod Numbers
 pub mod Quads
-pub mod Squares
-pub mod Scales
-pub mod SquareRoot
-pub mod Examples

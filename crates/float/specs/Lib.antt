@@ -2,4 +2,3 @@
 pub mod Values
 pub mod Hold
 pub mod Order
-pub mod SquareRoot

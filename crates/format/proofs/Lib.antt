@@ -2,5 +2,4 @@
 pub mod First
 pub mod Refusals
 pub mod Heads
-pub mod Entries
 pub mod Same

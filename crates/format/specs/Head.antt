@@ -44,7 +44,7 @@ headNumber m =
     (unless (identityOk m) 2
     (unless (countsOk m) 1 0))))
 
--- document 01, table: 21, "a segment length is outside 4 to 67,108,864"; the same is 1 for the manifest
+-- document 01, What each place turns away: 21, "a segment length is outside 4 to 67,108,864"; the same is 1 for the manifest
 abbrev pub badLength : List ℕ → ℕ
 badLength m = firstBad (λ n. within 4 maxSegmentBytes (lengthOf m n)) (segmentsOf m)
 

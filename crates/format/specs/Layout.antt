@@ -3,9 +3,8 @@ use mathlib.Core.Path.{_≡_}
 use mathlib.Core.List.{List}
 use Prim.Native.Nat.{ℕ, _+_, _*_, _≤_}
 use lib.ListN.{length}
-use Rattle.format.specs.Fields.{dimensionsOf, segmentsOf, rowsOf, tableAt, entriesAt, idAt, segmentAt, offsetAt, metadataAt}
+use Rattle.format.specs.Fields.{dimensionsOf, segmentsOf, rowsOf, tableAt, entriesAt}
 use Rattle.format.specs.declared.Layout.{Layout}
-use Rattle.format.specs.declared.Entry.{Entry}
 
 pub record Placed (m : List ℕ) (l : Layout) : Type 0 where
   pub dimensions : l .dimensions ≡ dimensionsOf m
@@ -20,6 +19,3 @@ pub record Placed (m : List ℕ) (l : Layout) : Type 0 where
   pub high : dimensionsOf m ≤ 4096
   pub few : segmentsOf m ≤ 1024
   pub most : rowsOf m ≤ 1000000
-
-abbrev pub entryAt : List ℕ → ℕ → Entry
-entryAt m r = record { id = idAt m r; segment = segmentAt m r; offset = offsetAt m r; metadata = metadataAt m r }

@@ -1,4 +1,4 @@
--- The head test of a search (document 01, table, 21: "in the head, the manifest's length or a field before its segments differs from
+-- The head test of a search (document 01, What each place turns away, 21: "in the head, the manifest's length or a field before its segments differs from
 -- what was accepted, or a segment length is outside 4 to 67,108,864"). Readings R3: the lent head is read anew with the rules of 1 and 2,
 -- then compared; R4: every field of the head is compared, a segment length is only held in its bounds.
 use mathlib.Core.Bool.{Bool, true, false, _&&_}

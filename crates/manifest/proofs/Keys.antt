@@ -16,8 +16,8 @@ use Rattle.rank.specs.Rows.{passing}
 use Rattle.rank.proofs.Sort.{sort-map, from-sort, length-sort}
 use Rattle.rank.proofs.Rows.{passing-pass, passing-more, count-all}
 use Rattle.format.specs.Fields.{rowsOf, segmentAt, offsetAt}
-use Rattle.format.specs.Plan.{rowsOk}
-use Rattle.format.proofs.Entries.{entered}
+use Rattle.entries.specs.Plan.{rowsOk}
+use Rattle.entries.proofs.Entries.{entered}
 use Rattle.manifest.specs.Tiling.{position, physical}
 use Rattle.manifest.specs.Scratch.{key, keySegment, keyRow, ordered, rowKeys}
 

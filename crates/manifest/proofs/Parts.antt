@@ -18,7 +18,7 @@ use Rattle.rank.proofs.Rows.{passing-complete}
 use Rattle.rank.proofs.ByKey.{order, key-rises}
 use Rattle.rank.proofs.Members.{take-map, mem-getD}
 use Rattle.format.specs.Fields.{rowsOf, segmentAt, offsetAt}
-use Rattle.format.specs.Plan.{rowsOk}
+use Rattle.entries.specs.Plan.{rowsOk}
 use Rattle.manifest.specs.Tiling.{position, physical, keep, inSegment}
 use Rattle.manifest.specs.Scratch.{key, keySegment, keyRow, run, Below, rowKeys}
 use Rattle.manifest.proofs.Keys.{segment-of, row-of, small, near, in-rows}

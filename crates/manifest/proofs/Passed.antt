@@ -11,7 +11,7 @@ use Rattle.config.proofs.Refusals.{not-zero}
 use Rattle.format.specs.Order.{orElse}
 use Rattle.format.specs.Fields.{modelLength, rowsOf}
 use Rattle.format.specs.Head.{opensOk, kindOk, identityOk, countsOk, headNumber}
-use Rattle.format.specs.Plan.{rowsOk, crcOk, planNumber}
+use Rattle.entries.specs.Plan.{rowsOk, crcOk, planNumber}
 use Rattle.manifest.specs.Tiling.{tiled}
 use Rattle.manifest.specs.Scratch.{rowKeys}
 use Rattle.manifest.proofs.Keys.{take-ordered, length-ordered}

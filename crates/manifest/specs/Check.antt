@@ -10,7 +10,7 @@ use Rattle.config.specs.Refusal.{refused, unlessRefused}
 use Rattle.config.specs.declared.Refusal.{Refusal}
 use Rattle.format.specs.Order.{unless, orElse}
 use Rattle.format.specs.Head.{headAt, zeroHead}
-use Rattle.format.specs.Plan.{planNumber}
+use Rattle.entries.specs.Plan.{planNumber}
 use Rattle.manifest.specs.Tiling.{tiled}
 use Rattle.manifest.specs.Scratch.{ordered}
 use Rattle.manifest.specs.declared.Checked.{Checked}

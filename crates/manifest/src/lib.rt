@@ -7,8 +7,8 @@ ghost use lib.ListN.{length, drop};
 ghost use Rattle.rank.specs.Rows.{passing};
 ghost use Rattle.format.specs.Fields.{rowsOf};
 ghost use Rattle.format.specs.Head.{headNumber};
-ghost use Rattle.format.specs.Plan.{rowsOk};
 ghost use Rattle.format.specs.Layout.{Placed};
+ghost use Rattle.entries.specs.Plan.{rowsOk};
 ghost use Rattle.manifest.specs.Tiling.{covers as covered, tiled};
 ghost use Rattle.manifest.specs.Scratch.{key, keyRow, rowKeys, ordered, run as runOf, Below};
 ghost use Rattle.manifest.specs.Check.{manifestNumber, checkedBy, checked, scratchAfter, scratchHeld};
@@ -34,7 +34,7 @@ fn key_of(m: &[u8], layout: Layout, row: usize) -> u64
     requires { ⌜ Placed (now m) layout × (row < layout .rows) × (rowsOk (now m) ≡ true) ⌝ }
     ensures { λ r. ⌜ r ≡ key (now (m .entry)) row ⌝ }
 {
-    let e = format::read_entry(m, layout, row);
+    let e = entries::read_entry(m, layout, row);
     (wide(e.segment) * 67108864 + wide(e.offset)) * 1048576 + row as u64
 }
 
@@ -92,11 +92,11 @@ fn covers(m: &[u8], layout: Layout, keys: &[u64], length: u64) -> bool
     let mut at = 0;
     let mut i = 0;
     while i < keys.len() {
-        let e = format::read_entry(m, layout, key_row(keys[i]));
+        let e = entries::read_entry(m, layout, key_row(keys[i]));
         if e.offset as usize != at {
             return false;
         }
-        at = format::record_end(e, layout.dimensions);
+        at = entries::record_end(e, layout.dimensions);
         i += 1;
     }
     (at + 4) as u64 == length
@@ -126,7 +126,7 @@ fn tiles(m: &[u8], layout: Layout, keys: &[u64]) -> bool
 pub fn accept(m: &[u8], expected: u32, scratch: &mut [u64]) -> u32
     ensures { λ r. ⌜ (r ≡ manifestNumber (now (m .entry)) expected (length (now (scratch .entry)))) × (now (scratch .exit) ≡ scratchHeld (now (m .entry)) expected (now (scratch .entry))) ⌝ }
 {
-    let number = format::plan(m, expected, scratch.len());
+    let number = entries::plan(m, expected, scratch.len());
     if number != 0 {
         return number;
     }

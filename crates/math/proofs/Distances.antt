@@ -19,13 +19,13 @@ use Rattle.le.proofs.Chain.{by}
 use Rattle.float.specs.Values.{zero as nought, one, two}
 use Rattle.float.specs.Hold.{clamp}
 use Rattle.float.specs.Order.{negative}
-use Rattle.float.specs.SquareRoot.{IsRoot, sqrtOf}
 use Rattle.float.proofs.Within.{Within, two as power, half}
 use Rattle.float.proofs.Bounds.{within-refl, neg-within, mul-under, div-under}
 use Rattle.float.proofs.Singles.{least-of}
 use Rattle.float.proofs.Additions.{Plus, plus-le, sub-some}
 use Rattle.float.proofs.Numbers.{In, hold-in, mul-number, sub-number}
-use Rattle.float.proofs.SquareRoot.{sqrt-is, root-over}
+use Rattle.root.specs.SquareRoot.{IsRoot, sqrtOf}
+use Rattle.root.proofs.SquareRoot.{sqrt-is, root-over}
 use Rattle.config.specs.Vector.{all, finites, validVector}
 use Rattle.config.specs.declared.Metric.{Metric}
 use Rattle.config.specs.declared.Metric.the-variants.{SquaredL2, Cosine, InnerProduct}

@@ -9,8 +9,8 @@ use lib.Dec.{leb}
 use lib.ListN.{length, getD}
 use lib.Ieee.{Float, nan}
 use Rattle.float.specs.Values.{quad}
-use Rattle.float.specs.SquareRoot.{sqrtOf}
 use Rattle.float.proofs.Quads.{four-alike, quad-at}
+use Rattle.root.specs.SquareRoot.{sqrtOf}
 use Rattle.config.specs.Metric.{isCosine}
 use Rattle.config.specs.Limits.{maxDimensions}
 use Rattle.config.specs.Vector.{finites, validVector, floatsAt}

@@ -7,7 +7,7 @@ use lib.ListN.{length}
 use lib.Ieee.{Float, binary64, neg, sub, mul, div, eq}
 use Rattle.float.specs.Values.{zero, one, two}
 use Rattle.float.specs.Hold.{clamp}
-use Rattle.float.specs.SquareRoot.{sqrtOf}
+use Rattle.root.specs.SquareRoot.{sqrtOf}
 use Rattle.config.specs.Vector.{finites, floatsAt}
 use Rattle.config.specs.declared.Metric.{Metric}
 use Rattle.config.specs.declared.Metric.the-variants.{SquaredL2, Cosine, InnerProduct}

@@ -6,7 +6,7 @@ ghost use Prim.Native.Nat.{_+_, _≤_, _<_};
 ghost use lib.ListN.{length, getD, drop};
 ghost use lib.Ieee.{nan, binary64, sub};
 ghost use Rattle.float.specs.Values.{quad};
-ghost use Rattle.float.specs.SquareRoot.{sqrtOf};
+ghost use Rattle.root.specs.SquareRoot.{sqrtOf};
 ghost use Rattle.config.specs.Metric.{isCosine};
 ghost use Rattle.config.specs.declared.Metric.the-variants.{Cosine};
 ghost use Rattle.config.specs.Vector.{floatsAt, finites};
@@ -61,7 +61,7 @@ fn inverse_of(root: f64) -> f64
 fn inverse_root(x: f64) -> f64
     ensures { λ r. ⌜ r ≡ inverse (sqrtOf x) ⌝ }
 {
-    inverse_of(float::sqrt(x))
+    inverse_of(root::sqrt(x))
 }
 
 pub fn inverse_norm(q: &[f64]) -> f64
@@ -111,7 +111,7 @@ fn finish(metric: Metric, sum: f64, q_inverse: f64, norm: f64) -> f64
 {
     match metric {
         Metric::SquaredL2 => sum,
-        Metric::Cosine => cosine(sum, q_inverse, float::sqrt(norm)),
+        Metric::Cosine => cosine(sum, q_inverse, root::sqrt(norm)),
         Metric::InnerProduct => -sum,
     }
 }
@@ -192,7 +192,7 @@ fn finish_four(metric: Metric, sums: [f64; 4], q_inverse: f64, norms: [f64; 4]) 
 {
     match metric {
         Metric::SquaredL2 => [sums[0], sums[1], sums[2], sums[3]],
-        Metric::Cosine => cosine_four(sums, q_inverse, float::sqrt_four(norms)),
+        Metric::Cosine => cosine_four(sums, q_inverse, root::sqrt_four(norms)),
         Metric::InnerProduct => [-sums[0], -sums[1], -sums[2], -sums[3]],
     }
 }

@@ -7,7 +7,7 @@ ghost use lib.ListN.{length, take, drop};
 ghost use Rattle.quantization.specs.Encoder.{baseLevels, midpoints};
 ghost use Rattle.format.specs.Fields.{rowsOf, dimensionsOf};
 ghost use Rattle.format.specs.Head.{headNumber};
-ghost use Rattle.format.specs.Plan.{rowsOk};
+ghost use Rattle.entries.specs.Plan.{rowsOk};
 ghost use Rattle.crc32.specs.Crc.{crc32};
 ghost use Rattle.le.specs.Le.{bytes, paste};
 ghost use Rattle.manifest.specs.Scratch.{rowKeys};

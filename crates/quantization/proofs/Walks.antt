@@ -27,8 +27,8 @@ use Rattle.float.proofs.BitLaws.{finite-number, value-finite}
 use Rattle.float.proofs.Within.{Within}
 use Rattle.float.proofs.Bounds.{closest-near, size-gt, add-is, within-refl, within-of-le, le-of-within}
 use Rattle.float.proofs.Patterns.{same-value}
-use Rattle.float.proofs.Scales.{root-value}
 use Rattle.float.proofs.Numbers.{le-of-not-lt}
+use Rattle.root.proofs.Scales.{root-value}
 use Rattle.quantization.specs.Encoder.{midpoint, Levels, notAbove, midpointsOf, midpoints}
 use Rattle.quantization.specs.Walk.{held, Walked}
 use Rattle.quantization.proofs.Scales.{odd-times, float, level-fine, level-sign, level-is}

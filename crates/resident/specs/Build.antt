@@ -81,7 +81,7 @@ normsAfter levels mids m s refusal d = unlessRefused refusal (normsUpto levels m
 abbrev pub residentAt : ℕ → List ℤ → List Float → List ℤ → ℕ → View
 residentAt dimensions codes scales norms n = record { scale = getD scales n nan; norm = getD norms n (pos 0); codes = part dimensions codes (n * dimensions) }
 
--- the lengths of the slices lent to a search (document 01, table, 21: "the cache or resident length differs"): as building's state has them,
+-- the lengths of the slices lent to a search (document 01, What each place turns away, 21: "the cache or resident length differs"): as building's state has them,
 -- and, of a state that no building returned, not under what the rows need (readings R3)
 unfoldable pub lengthsOk : State → ℕ → ℕ → ℕ → ℕ → ℕ → Bool
 lengthsOk state rows dimensions codes scales norms =

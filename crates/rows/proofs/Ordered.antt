@@ -6,8 +6,8 @@ use Prim.Native.Nat.{ℕ, _≤_}
 use lib.ListN.{length, getD, length-map}
 use Rattle.rank.proofs.Members.{all-at}
 use Rattle.format.specs.Fields.{rowsOf}
-use Rattle.format.specs.Plan.{rowsOk}
 use Rattle.format.proofs.First.{each-passes, all-pass}
+use Rattle.entries.specs.Plan.{rowsOk}
 use Rattle.manifest.specs.Tiling.{physical}
 use Rattle.manifest.specs.Scratch.{keyRow, rowKeys}
 use Rattle.manifest.proofs.Parts.{of-all, all-keys}

@@ -14,13 +14,13 @@ use Rattle.config.specs.Refusal.{none, refused}
 use Rattle.config.specs.declared.Refusal.{Refusal}
 use Rattle.config.proofs.Refusals.{not-zero, held-number, none-refused as both-none}
 use Rattle.format.specs.Fields.{segmentsOf, rowsOf, idAt, segmentAt, recordLength}
-use Rattle.format.specs.Plan.{planNumber}
 use Rattle.format.proofs.Heads.{bounds}
 use Rattle.format.proofs.First.{each-passes, all-pass}
 use Rattle.format.proofs.Refusals.{each-none, all-none}
 use Rattle.format.specs.Same.{sameHead}
 use Rattle.format.proofs.Same.{Unchanged}
-use Rattle.format.proofs.Entries.{Entered, entered, entry-keeps, lengths-of, ids-rise}
+use Rattle.entries.specs.Plan.{planNumber}
+use Rattle.entries.proofs.Entries.{Entered, entered, entry-keeps, lengths-of, ids-rise}
 use Rattle.manifest.specs.Tiling.{inSegment, tiled}
 use Rattle.manifest.specs.Check.{manifestNumber, checkedBy}
 use Rattle.manifest.proofs.Passed.{Planned, accepted, plans}

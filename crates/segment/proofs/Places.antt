@@ -15,8 +15,8 @@ use Rattle.format.specs.declared.Layout.{Layout}
 use Rattle.le.proofs.Chain.{lt-or-le}
 use Rattle.format.specs.Fields.{segmentsOf, lengthOf, segmentAt, recordLength}
 use Rattle.format.specs.Head.{lengthsOk}
-use Rattle.format.specs.Plan.{entryOk}
-use Rattle.format.proofs.Entries.{length-bounds, entered-by}
+use Rattle.entries.specs.Plan.{entryOk}
+use Rattle.entries.proofs.Entries.{length-bounds, entered-by}
 use Rattle.manifest.specs.Scratch.{keyRow}
 use Rattle.segment.specs.Record.{startOf, recordAt, startsTo, startsOf}
 

@@ -7,8 +7,8 @@ ghost use lib.ListN.{length};
 ghost use Rattle.crc32.specs.Tables.{slots};
 ghost use Rattle.format.specs.Fields.{segmentsOf, metricAt};
 ghost use Rattle.format.specs.Head.{headNumber, lengthsOk};
-ghost use Rattle.format.specs.Plan.{rowsOk, entryOk};
 ghost use Rattle.format.specs.Layout.{Placed};
+ghost use Rattle.entries.specs.Plan.{rowsOk, entryOk};
 ghost use Rattle.manifest.specs.Scratch.{keyRow, Below, rowKeys};
 ghost use Rattle.manifest.specs.Check.{scratchAfter};
 ghost use Rattle.segment.specs.Record.{startOf, recordAt, metadataStart, partsOk, recordOk, startsOf};
@@ -46,7 +46,7 @@ pub fn record_at(m: &[u8], layout: Layout, starts: &[u64; 1025], row: usize) -> 
     requires { ⌜ Placed (now m) layout × (lengthsOk (now m) ≡ true) × (now starts ≡ startsOf (now m)) × (row < layout .rows) × (entryOk (now m) row ≡ true) ⌝ }
     ensures { λ r. ⌜ r ≡ recordAt (now (m .entry)) row ⌝ }
 {
-    let e = format::read_entry(m, layout, row);
+    let e = entries::read_entry(m, layout, row);
     starts[wide(e.segment)] as usize + wide(e.offset)
 }
 
@@ -92,7 +92,7 @@ pub fn record_holds(
     requires { ⌜ Placed (now m) layout × (metric ≡ metricAt (now m)) × (lengthsOk (now m) ≡ true) × (now starts ≡ startsOf (now m)) × (row < layout .rows) × (entryOk (now m) row ≡ true) ⌝ }
     ensures { λ r. ⌜ r ≡ recordOk (now (m .entry)) (now (s .entry)) row ⌝ }
 {
-    let e = format::read_entry(m, layout, row);
+    let e = entries::read_entry(m, layout, row);
     let at = record_at(m, layout, starts, row);
     let metadata = wide(e.metadata);
     if s.len() < at + (12 + 4 * layout.dimensions + metadata) {

@@ -30,7 +30,7 @@ fn line(bits: u64) {
     let x = float::f64_value(bits);
     hex(bits);
     space();
-    value(float::sqrt(x));
+    value(root::sqrt(x));
     space();
     key(x);
     space();

@@ -4,7 +4,7 @@ use mathlib.Core.Path.{_≡_, ap, _∙_}
 use mathlib.Core.Bool.{true, false}
 use lib.ListN.{length, replicate, length-take}
 use borrow.Author.Tests.{eq-eqb, ne-eqb}
-use Rattle.format.specs.Plan.{planNumber}
+use Rattle.entries.specs.Plan.{planNumber}
 use Rattle.manifest.specs.Tiling.{tiled}
 use Rattle.manifest.specs.Check.{manifestNumber, scratchHeld}
 use Rattle.manifest.proofs.Passed.{Planned, planned}

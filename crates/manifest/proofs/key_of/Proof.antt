@@ -2,7 +2,7 @@ use borrow.Author.Needs.{needs}
 use native.Mathlib.Omega.{arith}
 use mathlib.Core.Path.{_≡_, _∙_}
 use Rattle.format.specs.Fields.{segmentAt, offsetAt}
-use Rattle.format.proofs.Entries.{Entered, entered}
+use Rattle.entries.proofs.Entries.{Entered, entered}
 use Rattle.manifest.specs.Scratch.{key}
 use Rattle.manifest.proofs.key_of.Statement.{statement}
 use Rattle.manifest.proofs.key_of.Tie as tie

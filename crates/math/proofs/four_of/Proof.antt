@@ -4,12 +4,12 @@ use Prim.Native.Nat.{_≤_, _-_}
 use borrow.Author.Needs.{needs}
 use lib.Ieee.{neg, ofBits}
 use lib.ListN.{length}
-use Rattle.float.specs.SquareRoot.{sqrtOf}
 use Rattle.config.specs.Metric.{isCosine}
 use Rattle.math.specs.Distance.{inverse}
 use Rattle.math.specs.Sums.{dotStep, stepOf}
 use Rattle.math.proofs.Folds.{Kept, kept-start, kept-turn, kept-done}
 use Rattle.float.proofs.Quads.{four-alike}
+use Rattle.root.specs.SquareRoot.{sqrtOf}
 use Rattle.math.proofs.Fours.{Fours, fours-start, fours-turn, pick, are-originals, same}
 use Rattle.math.proofs.four_of.Statement.{statement}
 use Rattle.math.proofs.four_of.Tie as tie

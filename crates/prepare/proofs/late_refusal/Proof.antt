@@ -1,6 +1,6 @@
 use borrow.Author.Needs.{needs}
 use borrow.Author.Tests.{le-leb, lt-leb}
-use Rattle.format.proofs.Entries.{lengths-of}
+use Rattle.entries.proofs.Entries.{lengths-of}
 use Rattle.prepare.specs.Prepare.{lateRefusal}
 use Rattle.prepare.proofs.late_refusal.Statement.{statement}
 use Rattle.prepare.proofs.late_refusal.Tie as tie

@@ -2,7 +2,7 @@ use borrow.Author.Needs.{needs}
 use mathlib.Core.Path.{_≡_, _∙_}
 use Prim.Native.Nat.{_+_}
 use Rattle.format.specs.Fields.{dimensionsOf}
-use Rattle.format.proofs.Entries.{lengths-of}
+use Rattle.entries.proofs.Entries.{lengths-of}
 use Rattle.quantization.proofs.Encoded.{base}
 use Rattle.prepare.proofs.store_rows.Statement.{statement}
 use Rattle.prepare.proofs.store_rows.Tie as tie

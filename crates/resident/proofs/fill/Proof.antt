@@ -9,7 +9,7 @@ use Rattle.quantization.specs.Encoder.{midpointsOf}
 use Rattle.quantization.specs.View.{View}
 use Rattle.format.specs.Fields.{dimensionsOf, rowsOf}
 use Rattle.format.proofs.First.{each-passes}
-use Rattle.format.proofs.Entries.{lengths-of, entry-keeps}
+use Rattle.entries.proofs.Entries.{lengths-of, entry-keeps}
 use Rattle.segment.specs.Record.{recordOk}
 use Rattle.resident.specs.Build.{codesUpto, scalesUpto, normsUpto}
 use Rattle.rows.specs.Rows.{rowOf}

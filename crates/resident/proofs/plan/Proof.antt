@@ -3,7 +3,7 @@ use native.Mathlib.Omega.{arith}
 use mathlib.Core.Path.{_≡_}
 use borrow.Author.Tests.{eq-eqb, ne-eqb}
 use Rattle.format.specs.Fields.{dimensionsOf, rowsOf}
-use Rattle.format.proofs.Entries.{lengths-of}
+use Rattle.entries.proofs.Entries.{lengths-of}
 use Rattle.resident.specs.Build.{roomNumber, plannedRefusal}
 use Rattle.resident.proofs.plan.Statement.{statement}
 use Rattle.resident.proofs.plan.Tie as tie

@@ -1,5 +1,5 @@
 use borrow.Author.Needs.{needs}
-use Rattle.format.proofs.Entries.{lengths-of}
+use Rattle.entries.proofs.Entries.{lengths-of}
 use Rattle.resident.proofs.store.Statement.{statement}
 use Rattle.resident.proofs.store.Tie as tie
 

@@ -3,7 +3,7 @@ use Prim.Native.Nat.{_-_, _≤_}
 use borrow.Author.Tests.{not-true, not-false}
 use Rattle.format.specs.Fields.{rowsOf}
 use Rattle.format.proofs.First.{Reached, reached-start, reached-turn, reached-stop, reached-end}
-use Rattle.format.proofs.Entries.{lengths-of, entry-keeps}
+use Rattle.entries.proofs.Entries.{lengths-of, entry-keeps}
 use Rattle.segment.specs.Record.{recordOk}
 use Rattle.rows.proofs.bad_row.Statement.{statement}
 use Rattle.rows.proofs.bad_row.Tie as tie

@@ -5,7 +5,7 @@ use Prim.Native.Nat.{_+_, _-_, _*_, _≤_}
 use lib.ListN.{length}
 use Rattle.config.specs.Vector.{finites, floatsAt}
 use Rattle.format.specs.Fields.{dimensionsOf}
-use Rattle.format.proofs.Entries.{lengths-of, entry-keeps}
+use Rattle.entries.proofs.Entries.{lengths-of, entry-keeps}
 use Rattle.segment.proofs.Records.{good}
 use Rattle.rows.proofs.put_row.Statement.{statement}
 use Rattle.rows.proofs.put_row.Tie as tie

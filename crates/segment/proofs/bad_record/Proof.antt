@@ -6,7 +6,7 @@ use Prim.Native.Nat.{ℕ, _-_, _≤_, _<_}
 use lib.ListN.{length, getD, length-map}
 use borrow.Author.Tests.{not-true, not-false}
 use Rattle.format.proofs.First.{Reached, reached-start, reached-turn, reached-stop, reached-end}
-use Rattle.format.proofs.Entries.{lengths-of, entry-keeps}
+use Rattle.entries.proofs.Entries.{lengths-of, entry-keeps}
 use Rattle.manifest.specs.Scratch.{keyRow}
 use Rattle.segment.specs.Record.{recordOk}
 use Rattle.segment.proofs.Places.{row-at}

@@ -4,7 +4,7 @@ use mathlib.Core.Path.{_≡_}
 use Prim.Native.Nat.{_+_, _-_}
 use lib.ListN.{length, getD}
 use Rattle.format.specs.Fields.{lengthOf}
-use Rattle.format.proofs.Entries.{lengths-of}
+use Rattle.entries.proofs.Entries.{lengths-of}
 use Rattle.segment.specs.Record.{startOf}
 use Rattle.segment.specs.Check.{segmentCrcOk}
 use Rattle.segment.proofs.Places.{start-at, Ends, ends}

@@ -3,7 +3,7 @@ use native.Mathlib.Omega.{arith}
 use mathlib.Core.Path.{_≡_, _∙_}
 use lib.ListN.{getD}
 use Rattle.format.specs.Fields.{segmentAt, offsetAt}
-use Rattle.format.proofs.Entries.{Entered, entered-by}
+use Rattle.entries.proofs.Entries.{Entered, entered-by}
 use Rattle.segment.specs.Record.{startOf, recordAt}
 use Rattle.segment.proofs.Places.{start-bound, start-at}
 use Rattle.segment.proofs.record_at.Statement.{statement}

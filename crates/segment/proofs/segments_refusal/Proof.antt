@@ -4,7 +4,7 @@ use mathlib.Core.Path.{_≡_, ap, _∙_}
 use lib.ListN.{length, getD}
 use borrow.Author.Tests.{eq-eqb, ne-eqb}
 use Rattle.format.specs.Fields.{segmentsOf}
-use Rattle.format.proofs.Entries.{lengths-of}
+use Rattle.entries.proofs.Entries.{lengths-of}
 use Rattle.segment.specs.Record.{startOf}
 use Rattle.segment.specs.Check.{segmentsRefusal}
 use Rattle.segment.proofs.Places.{start-at}

@@ -1,6 +1,6 @@
 use mathlib.Core.Path.{ap, _∙_}
 use lib.Ieee.{binary64, ofInt}
-use Rattle.float.specs.SquareRoot.{sqrtOf}
+use Rattle.root.specs.SquareRoot.{sqrtOf}
 use Rattle.row.proofs.Distances.{held}
 use borrow.Author.Needs.{needs}
 use Rattle.vectors_quantization.proofs.answer.Statement.{statement}

@@ -1,0 +1,2 @@
+-- What the rules of segments and entries say.
+pub mod Entries

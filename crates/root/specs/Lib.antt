@@ -1,0 +1,2 @@
+-- The square root as document 01 defines it.
+pub mod SquareRoot
