@@ -2,7 +2,7 @@
 -- quantization.rs, quantized_cache.rs.
 use Prim.Native.Nat.{ℕ}
 
--- Document 01, Layouts: metadata "at most 16,384 bytes"; config.rs: dimensions and ef "1..=4096"
+-- Document 01, Layouts: metadata "at most 16,384 bytes"; config.rs: dimensions "1..=4096", ef "M..=4096"
 abbrev pub maxDimensions : ℕ
 maxDimensions = 4096
 
@@ -19,7 +19,7 @@ maxRecords = 1000000
 abbrev pub maxSegments : ℕ
 maxSegments = 1024
 
--- Document 01, table: 1, "length outside 66..=67,108,864"; 21, "a segment length is outside 4 to 67,108,864"
+-- Document 01, What each place turns away: 1, "length outside 66..=67,108,864"; 21, "a segment length is outside 4 to 67,108,864"
 abbrev pub maxManifestBytes : ℕ
 maxManifestBytes = 67108864
 

@@ -1,7 +1,10 @@
 // Bounds, metric, configuration and the vector test: config.rs, and `EmbeddingSpace::validate` of collection.rs.
 ghost use mathlib.Core.Path.{_≡_};
+ghost use mathlib.Core.Bool.{_&&_};
 ghost use Prim.Native.Nat.{_+_, _*_, _≤_};
+ghost use lib.Dec.{leb};
 ghost use lib.ListN.{length};
+ghost use Rattle.config.specs.Limits.{maxResults, maxCandidates};
 ghost use Rattle.config.specs.Metric.{metricOf, byteOf, isCosine};
 ghost use Rattle.config.specs.Space.{validConfig, noZero, validSpace};
 ghost use Rattle.config.specs.Vector.{validVector, floatsAt, patternsAt, largestBits};
@@ -28,6 +31,20 @@ pub const MAX_CANDIDATES: usize = 65_536;
 pub const MAX_CODE_BYTES: usize = 536_870_912;
 
 pub const MAX_CACHE_BYTES: usize = 1_073_741_824;
+
+// 17: the most results of a search.
+pub fn results_hold(k: usize) -> bool
+    ensures { λ r. ⌜ r ≡ leb k maxResults ⌝ }
+{
+    k <= MAX_RESULTS
+}
+
+// 18: the candidates of a search.
+pub fn limit_holds(k: usize, limit: usize) -> bool
+    ensures { λ r. ⌜ r ≡ (leb k limit && leb limit maxCandidates) ⌝ }
+{
+    (k <= limit) & (limit <= MAX_CANDIDATES)
+}
 
 // A refusal's number and place; number 0 is none.
 pub struct Refusal {
