@@ -16,13 +16,13 @@ use lib.Ieee.Scale.{finite}
 use Rattle.le.proofs.Chain.{by}
 use Rattle.float.specs.Values.{zero as nought, one, two}
 use Rattle.float.specs.Hold.{maxZero, clamp}
-use Rattle.float.specs.SquareRoot.{sqrtOf}
 use Rattle.float.proofs.Within.{Within, two as power}
 use Rattle.float.proofs.Bounds.{within-refl, within-trans, within-of-le, neg-within, int-within, int-over, mul-under, mul-over, add-under, sub-under, div-under, within-pos, round-sign}
 use Rattle.float.proofs.Singles.{positive-of, positive-parts, most32}
 use Rattle.float.proofs.Numbers.{hold-in}
 use Rattle.float.proofs.BitLaws.{finite-number}
-use Rattle.float.proofs.SquareRoot.{sqrt-root, root-over, root-under}
+use Rattle.root.specs.SquareRoot.{sqrtOf}
+use Rattle.root.proofs.SquareRoot.{sqrt-root, root-over, root-under}
 use Rattle.config.specs.Refusal.{none}
 use Rattle.config.specs.Metric.{isCosine}
 use Rattle.config.specs.declared.Metric.{Metric}

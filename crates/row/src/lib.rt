@@ -8,14 +8,15 @@ ghost use lib.Ieee.{nan, binary64, ofInt, ofBits};
 ghost use mir.Syntax.{w64};
 ghost use mir.Val.{toZ};
 ghost use Rattle.le.specs.Le.{leAt};
-ghost use Rattle.float.specs.SquareRoot.{sqrtOf};
+ghost use Rattle.root.specs.SquareRoot.{sqrtOf};
 ghost use Rattle.row.specs.Distance.{squaredL2, innerProduct, cosineBy, distanceOf};
-ghost use Rattle.row.specs.Read.{readOf, sumsTest};
+ghost use Rattle.row.specs.Read.{readOf, scaleTest, sumsTest};
 ghost use Rattle.row.specs.Answer.{measured as measuredOf, answer, viewOf, rowAnswer};
 ghost use Rattle.config.specs.Refusal.{refused as refusedAt};
 ghost use Rattle.codes.specs.Codes.{part, Small};
 ghost use Rattle.quantization.specs.View.{rowAt, rowTest, validRow};
 ghost use Rattle.quantization.specs.Encoder.{Levels};
+use codes::Sums;
 use config::Metric;
 use config::Refusal;
 use quantization::Row;
@@ -44,7 +45,7 @@ pub fn norm_root(norm: i64) -> f64
     requires { ⌜ natAbs norm ≤ 9007199254740992 ⌝ }
     ensures { λ r. ⌜ r ≡ sqrtOf (ofInt binary64 norm) ⌝ }
 {
-    float::sqrt(whole(norm))
+    root::sqrt(whole(norm))
 }
 
 fn squared_l2(s: f64, n: i64, qs: f64, qn: i64, d: i64) -> f64
@@ -66,7 +67,7 @@ fn cosine_of(n: i64, root: f64, d: i64) -> f64
     requires { ⌜ (natAbs n ≤ 9007199254740992) × (natAbs d ≤ 9007199254740992) ⌝ }
     ensures { λ r. ⌜ r ≡ cosineBy n root d ⌝ }
 {
-    float::hold(1.0 - whole(d) / (float::sqrt(whole(n)) * root))
+    float::hold(1.0 - whole(d) / (root::sqrt(whole(n)) * root))
 }
 
 pub fn approximate_distance(metric: Metric, row: Row, query: Row, root: f64, dot: i32) -> f64
@@ -90,12 +91,17 @@ fn sums_hold(metric: Metric, row: Row, squares: u32, whole: bool) -> bool
     whole & (norm == squares as i64) & !(metric.is_cosine() & (norm == 0))
 }
 
+fn scale_holds(scale: f64) -> bool
+    ensures { λ r. ⌜ r ≡ scaleTest scale ⌝ }
+{
+    float::is_finite(scale) & (0.0 < scale)
+}
+
 // The row test, from what was summed of the codes.
 pub fn valid(levels: u32, metric: Metric, row: Row, squares: u32, whole: bool) -> bool
     ensures { λ r. ⌜ r ≡ rowTest levels metric (row .scale) (row .norm) squares whole ⌝ }
 {
-    let scale = row.scale;
-    float::is_finite(scale) & (0.0 < scale) & sums_hold(metric, row, squares, whole)
+    scale_holds(row.scale) & sums_hold(metric, row, squares, whole)
 }
 
 // Scale and norm at a place of a cache. The scale is tested by its bits, which is quicker, and only then read as a number.
@@ -156,6 +162,39 @@ fn passed_over(valid: bool, place: u64) -> RowAnswer
     refused(21, place)
 }
 
+// An eligible row whose scale has passed, from its sums: the rest of the row test, then the distance.
+fn scaled_row(metric: Metric, row: Row, sums: Sums, query: Row, root: f64, place: u64) -> RowAnswer
+    requires { ⌜ (natAbs (query .norm) ≤ 9007199254740992) × (root ≡ sqrtOf (ofInt binary64 (query .norm))) ⌝ }
+    ensures { λ r. ⌜ r ≡ answer (sumsTest metric (row .norm) (sums .squares) (sums .whole)) true place (distanceOf metric (row .scale) (row .norm) (query .scale) (query .norm) (sums .dot)) ⌝ }
+{
+    if sums_hold(metric, row, sums.squares, sums.whole) {
+        return measured(
+            approximate_distance(metric, row, query, root, sums.dot),
+            place,
+        );
+    }
+    refused(21, place)
+}
+
+// An eligible row from its sums.
+pub fn summed_row(
+    levels: u32,
+    metric: Metric,
+    row: Row,
+    sums: Sums,
+    query: Row,
+    root: f64,
+    place: u64,
+) -> RowAnswer
+    requires { ⌜ (natAbs (query .norm) ≤ 9007199254740992) × (root ≡ sqrtOf (ofInt binary64 (query .norm))) ⌝ }
+    ensures { λ r. ⌜ r ≡ answer (rowTest levels metric (row .scale) (row .norm) (sums .squares) (sums .whole)) true place (distanceOf metric (row .scale) (row .norm) (query .scale) (query .norm) (sums .dot)) ⌝ }
+{
+    if scale_holds(row.scale) {
+        return scaled_row(metric, row, sums, query, root, place);
+    }
+    refused(21, place)
+}
+
 // A row of a cache: scale, norm and codes from at on. It does not call `holds`, since a call that is lent the cache costs each row a
 // nanosecond more.
 pub fn cached_row(
@@ -176,11 +215,8 @@ pub fn cached_row(
     let codes = at + 16;
     if let ReadRow::Scaled(row) = read_row(cache, at) {
         if eligible {
-            let t = codes::row_sums(levels as u8, cache, codes, q);
-            if sums_hold(metric, row, t.squares, t.whole) {
-                return measured(approximate_distance(metric, row, query, root, t.dot), place);
-            }
-            return refused(21, place);
+            let sums = codes::row_sums(levels as u8, cache, codes, q);
+            return scaled_row(metric, row, sums, query, root, place);
         }
         let t = codes::row_check(levels as u8, cache, codes, q.len());
         return passed_over(sums_hold(metric, row, t.squares, t.whole), place);
@@ -206,11 +242,8 @@ pub fn resident_row(
     ensures { λ r. ⌜ r ≡ rowAnswer levels metric eligible place (viewOf (row .scale) (row .norm) (part (length (now (q .entry))) (now (codes .entry)) at)) (viewOf (query .scale) (query .norm) (now (q .entry))) ⌝ }
 {
     if eligible {
-        let t = codes::row_sums_resident(levels as u8, codes, at, q);
-        if valid(levels, metric, row, t.squares, t.whole) {
-            return measured(approximate_distance(metric, row, query, root, t.dot), place);
-        }
-        return refused(21, place);
+        let sums = codes::row_sums_resident(levels as u8, codes, at, q);
+        return summed_row(levels, metric, row, sums, query, root, place);
     }
     let t = codes::row_check_resident(levels as u8, codes, at, q.len());
     passed_over(valid(levels, metric, row, t.squares, t.whole), place)

@@ -41,10 +41,10 @@ use Rattle.row.specs.declared.RowAnswer.the-variants.{Distance, PassedOver, Ref
 use Rattle.row.proofs.Yields.{Yields, yields, passes-over, refuses}
 use Rattle.row.proofs.Finite.{distance-fits}
 use Rattle.format.specs.Fields.{rowsOf, dimensionsOf, metricAt, idAt}
-use Rattle.format.specs.Plan.{rowsOk}
 use Rattle.format.proofs.First.{Reached, reached-start, reached-turn}
 use Rattle.format.proofs.Refusals.{passes, each-none, refusal-stop, refusal-end}
-use Rattle.format.proofs.Entries.{ids-rise}
+use Rattle.entries.specs.Plan.{rowsOk}
+use Rattle.entries.proofs.Entries.{ids-rise}
 use Rattle.quantized_cache.specs.Open.{rowStart, cachedAt}
 use Rattle.quantized_cache.proofs.Opens.{Lies}
 use Rattle.resident.specs.Build.{residentAt}

@@ -3,32 +3,22 @@
 use mathlib.Core.Path.{_≡_}
 use mathlib.Core.Logic.{_⊎_}
 use mathlib.Core.Bool.{true}
-use mathlib.Core.List.{List}
-use Prim.Native.Nat.{ℕ, _^_, _≤_, _<_}
-use lib.IntN.{ℤ, natAbs}
+use Prim.Native.Nat.{ℕ, _<_}
+use lib.IntN.{ℤ}
 use lib.Ieee.{Float, binary64, ofInt, toBits}
 use Rattle.float.specs.Order.{keyOf}
-use Rattle.float.specs.SquareRoot.{sqrtOf}
+use Rattle.root.specs.SquareRoot.{sqrtOf}
 use Rattle.config.specs.Metric.{isCosine}
 use Rattle.config.specs.declared.Metric.{Metric}
 use Rattle.config.specs.declared.Refusal.{Refusal}
-use Rattle.codes.specs.Codes.{squares, dot}
-use Rattle.quantization.specs.View.{View, validRow}
 use Rattle.row.specs.declared.RowAnswer.{RowAnswer}
 use Rattle.row.specs.declared.RowAnswer.the-variants.{Distance, PassedOver, Refused}
-use Rattle.cosine.specs.Far.{isFar, Far}
+use Rattle.cosine.specs.Far.{Far}
 
 -- t is a limit for a query of this norm and the key over which none is kept
 pub record Limits (metric : Metric) (norm : ℤ) (top t : ℕ) : Type 0 where
   pub far : Far (sqrtOf (ofInt binary64 norm)) top t
   pub cosine : 0 < t → isCosine metric ≡ true
-
--- a row passes the row test and is too far by the limit t from the query's codes
-pub record FarRow (levels : ℕ) (metric : Metric) (r : View) (ys : List ℤ) (t : ℕ) : Type 0 where
-  pub valid : validRow levels metric r ≡ true
-  pub far : isFar (squares (r .codes)) (dot (r .codes) ys) t ≡ true
-  pub squared : squares (r .codes) < 2 ^ 32
-  pub dotted : natAbs (dot (r .codes) ys) ≤ 2 ^ 31
 
 -- a row's answer is a distance with a key over top
 pub record Over (top : ℕ) (a : RowAnswer) : Type 0 where

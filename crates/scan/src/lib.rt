@@ -1,5 +1,6 @@
-// The scan of a search: generation.rs's `search_selected` up to its candidates. Every row is tested, and of the eligible ones the least by
-// approximate distance are kept in two lent slices, the keys and the rows; the slices' length is the limit.
+// The scan of a search: the Rust's `search_selected` (generation/quantization.rs, generation/quantized_cache.rs) up to its candidates. Every
+// row is tested, and of the eligible ones the least by approximate distance are kept in two lent slices, the keys and the rows; the slices'
+// length is the limit.
 ghost use mathlib.Core.Path.{_≡_};
 ghost use mathlib.Core.Bool.{true, not, _&&_};
 ghost use Prim.Native.Nat.{_+_, _*_, _≤_, _<_};
@@ -8,7 +9,7 @@ ghost use lib.IntN.{pos, natAbs};
 ghost use lib.ListN.{length, getD};
 ghost use lib.Ieee.{binary64, nan, ofInt, isNan, toBits};
 ghost use Rattle.float.specs.Order.{keyOf};
-ghost use Rattle.float.specs.SquareRoot.{sqrtOf};
+ghost use Rattle.root.specs.SquareRoot.{sqrtOf};
 ghost use Rattle.rank.specs.Sort.{Ascending};
 ghost use Rattle.rank.specs.Heap.{HeapFrom};
 ghost use Rattle.rank.specs.Pairs.{pack, pairs};
@@ -16,17 +17,18 @@ ghost use Rattle.config.specs.Metric.{isCosine};
 ghost use Rattle.codes.specs.Codes.{part, Small};
 ghost use Rattle.quantization.specs.View.{rowTest, rowAt};
 ghost use Rattle.quantization.specs.Encoder.{Levels};
-ghost use Rattle.row.specs.Answer.{viewOf, rowAnswer};
+ghost use Rattle.row.specs.Answer.{answer, viewOf, rowAnswer};
+ghost use Rattle.row.specs.Distance.{distanceOf};
 ghost use Rattle.cosine.specs.Far.{isFar};
 ghost use Rattle.format.specs.Fields.{rowsOf, dimensionsOf, metricAt};
 ghost use Rattle.format.specs.Layout.{Placed};
-ghost use Rattle.format.specs.Plan.{rowsOk};
+ghost use Rattle.entries.specs.Plan.{rowsOk};
 ghost use Rattle.quantized_cache.specs.Open.{RoomFor, cachedAt};
 ghost use Rattle.resident.specs.Build.{residentAt};
 ghost use Rattle.search_spec.specs.Lent.{given, everyone};
 ghost use Rattle.search_spec.specs.Lists.{isEligible};
 ghost use Rattle.scan.specs.Bar.{Bar, Keeps};
-ghost use Rattle.scan.specs.Far.{Limits, FarRow, Entered};
+ghost use Rattle.scan.specs.Far.{Limits, Entered};
 ghost use Rattle.scan.specs.Scan.{ScanIs};
 use codes::Sums;
 use config::Metric;
@@ -99,37 +101,27 @@ fn far_sums(levels: u32, metric: Metric, row: Row, sums: Sums, t: u32) -> bool
         & cosine::is_far(sums.squares, sums.dot, t)
 }
 
-fn cached_far(levels: u32, metric: Metric, cache: &[u8], at: usize, q: &[i16], t: u32) -> bool
-    requires { ⌜ (at + 16 + length (now q) ≤ length (now cache)) × (length (now q) ≤ 4096) × Levels levels ⌝ }
-    requires { ⌜ Small (now q) ⌝ }
-    ensures { λ r. ⌜ (r ≡ true → FarRow levels metric (rowAt (length (now (q .entry))) (now (cache .entry)) at) (now (q .entry)) t) ⌝ }
-{
-    let row = Row {
-        scale: float::f64_value(le::u64_at(cache, at)),
-        norm: le::i64_at(cache, at + 8),
-    };
-    let sums = codes::row_sums(levels as u8, cache, at + 16, q);
-    far_sums(levels, metric, row, sums, t)
-}
-
-fn resident_far(
+// What an eligible row yields by its sums, but that one too far by the limit t is passed over.
+fn summed_entry(
     levels: u32,
     metric: Metric,
-    codes: &[i8],
-    at: usize,
     row: Row,
-    q: &[i16],
+    sums: Sums,
+    query: Row,
+    root: f64,
+    place: u64,
     t: u32,
-) -> bool
-    requires { ⌜ (at + length (now q) ≤ length (now codes)) × (length (now q) ≤ 4096) × Levels levels ⌝ }
-    requires { ⌜ Small (now q) ⌝ }
-    ensures { λ r. ⌜ (r ≡ true → FarRow levels metric (viewOf (row .scale) (row .norm) (part (length (now (q .entry))) (now (codes .entry)) at)) (now (q .entry)) t) ⌝ }
+) -> RowAnswer
+    requires { ⌜ (isCosine metric ≡ true) × (natAbs (query .norm) ≤ 9007199254740992) × (root ≡ sqrtOf (ofInt binary64 (query .norm))) ⌝ }
+    ensures { λ r. ⌜ Entered (query .norm) t (answer (rowTest levels metric (row .scale) (row .norm) (sums .squares) (sums .whole)) true place (distanceOf metric (row .scale) (row .norm) (query .scale) (query .norm) (sums .dot))) r ⌝ }
 {
-    let sums = codes::row_sums_resident(levels as u8, codes, at, q);
-    far_sums(levels, metric, row, sums, t)
+    if far_sums(levels, metric, row, sums, t) {
+        return RowAnswer::PassedOver;
+    }
+    row::summed_row(levels, metric, row, sums, query, root, place)
 }
 
-// What a row of a cache yields, but that one too far by the limit t is passed over. Most are, so that the others may be summed twice.
+// The same of a row of a cache, whether it is eligible or not. Without a limit nothing is tested for it.
 fn cached_entry(
     levels: u32,
     metric: Metric,
@@ -147,14 +139,17 @@ fn cached_entry(
     ensures { λ r. ⌜ Entered (query .norm) t (rowAnswer levels metric eligible place (rowAt (length (now (q .entry))) (now (cache .entry)) at) (viewOf (query .scale) (query .norm) (now (q .entry)))) r ⌝ }
 {
     if eligible & (0 < t) {
-        if cached_far(levels, metric, cache, at, q, t) {
-            return RowAnswer::PassedOver;
-        }
+        let row = Row {
+            scale: float::f64_value(le::u64_at(cache, at)),
+            norm: le::i64_at(cache, at + 8),
+        };
+        let sums = codes::row_sums(levels as u8, cache, at + 16, q);
+        return summed_entry(levels, metric, row, sums, query, root, place, t);
     }
     row::cached_row(levels, metric, cache, at, q, query, root, eligible, place)
 }
 
-// The same of a resident row.
+// Of a resident row.
 fn resident_entry(
     levels: u32,
     metric: Metric,
@@ -173,9 +168,8 @@ fn resident_entry(
     ensures { λ r. ⌜ Entered (query .norm) t (rowAnswer levels metric eligible place (viewOf (row .scale) (row .norm) (part (length (now (q .entry))) (now (codes .entry)) at)) (viewOf (query .scale) (query .norm) (now (q .entry)))) r ⌝ }
 {
     if eligible & (0 < t) {
-        if resident_far(levels, metric, codes, at, row, q, t) {
-            return RowAnswer::PassedOver;
-        }
+        let sums = codes::row_sums_resident(levels as u8, codes, at, q);
+        return summed_entry(levels, metric, row, sums, query, root, place, t);
     }
     row::resident_row(
         levels,
