@@ -18,8 +18,8 @@ use Rattle.rank.proofs.Shared.{to-among, not-among, among-sort}
 use Rattle.rank.proofs.Sort.{length-sort, ascending-sort}
 use Rattle.rank.proofs.Numbers.{eq-or-ne, leb-order}
 use Rattle.format.specs.Fields.{rowsOf, idAt}
-use Rattle.format.specs.Plan.{rowsOk}
-use Rattle.format.proofs.Entries.{ids-rise}
+use Rattle.entries.specs.Plan.{rowsOk}
+use Rattle.entries.proofs.Entries.{ids-rise}
 use Rattle.search_spec.specs.Lent.{Wanted, every, only, given, handed, wants, everyone}
 use Rattle.search_spec.specs.Lists.{isEligible, eligible}
 use Rattle.eligible.specs.Walk.{Behind, Stepped, Walked, Turned, ordered}

@@ -8,7 +8,7 @@ ghost use lib.Dec.{leb};
 ghost use lib.ListN.{length, drop};
 ghost use Rattle.rank.specs.Sort.{sort, Ascending};
 ghost use Rattle.format.specs.Layout.{Placed};
-ghost use Rattle.format.specs.Plan.{rowsOk};
+ghost use Rattle.entries.specs.Plan.{rowsOk};
 ghost use Rattle.search_spec.specs.Lent.{given, handed, everyone};
 ghost use Rattle.search_spec.specs.Lists.{eligible};
 ghost use Rattle.eligible.specs.Walk.{Behind, Stepped, Walked, Turned, ordered};

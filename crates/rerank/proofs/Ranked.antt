@@ -6,30 +6,45 @@ use Prim.Native.Nat.{ℕ, _^_, _≤_, _<_}
 use native.Mathlib.Omega.{arith}
 use lib.Dec.{leb}
 use lib.Ieee.{Float}
-use lib.Ieee.Scale.{finite}
-use lib.ListN.{length, getD}
+use lib.ListN.{length}
 use lib.Seq.{take-all}
 use Rattle.rank.specs.Sort.{_∈_, sort, least}
 use Rattle.rank.specs.Limit.{byKey}
 use Rattle.rank.specs.Pairs.{pairs}
 use Rattle.rank.specs.Rows.{RowsBelow}
-use Rattle.rank.proofs.Members.{all-at}
 use Rattle.rank.proofs.Sort.{length-sort, from-sort, to-sort}
 use Rattle.rank.proofs.Rows.{each-below}
 use Rattle.rank.proofs.Order.{Measured, least-order}
 use Rattle.rank.proofs.Rekeyed.{resorted}
 use Rattle.config.specs.Refusal.{unlessRefused}
 use Rattle.format.specs.Fields.{rowsOf, metricAt, idAt}
-use Rattle.format.specs.Plan.{rowsOk}
-use Rattle.format.proofs.Entries.{ids-rise}
-use Rattle.format.proofs.Refusals.{each-none}
+use Rattle.entries.specs.Plan.{rowsOk}
+use Rattle.entries.proofs.Entries.{ids-rise}
 use Rattle.segment.specs.Record.{vectorOf}
 use Rattle.search_spec.specs.Lists.{originalAt, byOriginal}
-use Rattle.search_spec.specs.Scan.{recordRefusal, recordsRefusal}
+use Rattle.search_spec.specs.Scan.{recordsRefusal}
+use Rattle.search_spec.proofs.Keys.{records-each}
 use Rattle.rerank.specs.Rerank.{keyAt, MeasureIs, RerankIs}
 use Rattle.rerank.specs.declared.Reranked.{Reranked}
 use Rattle.rerank.proofs.Fits.{original-fits}
 use Rattle.rerank.proofs.Records.{number, record-fine}
+
+-- rows whose records are not refused: by key and row they stand as by distance and id
+module _ (m s : List ℕ) (q : List Float) (ok : rowsOk m ≡ true) (rows : List ℕ) (below : (n : ℕ) → n ∈ rows → n < rowsOf m) (z : recordsRefusal m s q rows .number ≡ 0) where
+  measured : (n : ℕ) → n ∈ rows → Measured (originalAt m s q) (idAt m) n
+  unfolding originalAt
+  measured n i =
+      record {
+        fit = original-fits (metricAt m) q (vectorOf m s n);
+        number = number (originalAt m s q n) (record-fine m s q n (records-each m s q rows z n i));
+      }
+
+  pub by-key : sort (byKey (keyAt m s q)) rows ≡ sort (byOriginal m s q) rows
+  unfolding least keyAt
+  by-key =
+      sym (take-all (length rows) (sort (byKey (keyAt m s q)) rows) (omega (arith, length-sort (byKey (keyAt m s q)) rows)))
+      ∙ least-order (originalAt m s q) (idAt m) rows measured (λ a b i j l. ids-rise m a b ok l (below b j)) (length rows)
+      ∙ take-all (length rows) (sort (byOriginal m s q) rows) (omega (arith, length-sort (byOriginal m s q) rows))
 
 -- the rows `given` are the candidates C in any order, R are they by rising row, and r and ks what measuring them left
 module _ (m s : List ℕ) (q : List Float) (ok : rowsOk m ≡ true) (given : List ℕ) (B : RowsBelow (rowsOf m) given) (R : List ℕ) (is : R ≡ sort leb given)
@@ -47,30 +62,13 @@ module _ (m s : List ℕ) (q : List Float) (ok : rowsOk m ≡ true) (given : Lis
   measured-is : r .measured ≡ unlessRefused (recordsRefusal m s q C) (length C) 0
   measured-is = let l = ap length by-row ∙ length-sort leb C in rw (refusal-is, l) at (M .measured)
 
-  -- where none is refused
-  module _ (z : r .refusal .number ≡ 0) where
-    fine : (n : ℕ) → n ∈ C → finite (originalAt m s q n) ≡ true
-    fine n i =
-        all-at (λ n. finite (originalAt m s q n) ≡ true) R 0
-        (λ j l. record-fine m s q (getD R j 0) (each-none (λ j. recordRefusal m s q (getD R j 0)) (length R) (rw (M .refusal) at z) j l)) n (rw by-row (to-sort leb n C i))
-
-    measured : (n : ℕ) → n ∈ C → Measured (originalAt m s q) (idAt m) n
-    unfolding originalAt
-    measured n i = record { fit = original-fits (metricAt m) q (vectorOf m s n); number = number (originalAt m s q n) (fine n i) }
-
-    by-key : sort (byKey (keyAt m s q)) C ≡ sort (byOriginal m s q) C
-    unfolding least keyAt
-    by-key =
-        sym (take-all (length C) (sort (byKey (keyAt m s q)) C) (omega (arith, length-sort (byKey (keyAt m s q)) C)))
-        ∙ least-order (originalAt m s q) (idAt m) C measured (λ a b i j l. ids-rise m a b ok l (below b j)) (length C)
-        ∙ take-all (length C) (sort (byOriginal m s q) C) (omega (arith, length-sort (byOriginal m s q) C))
-
   -- and e and f are what the sort of ks and R has left
   pub ranked : rowsOf m ≤ 1000000 → (e f : List ℕ) → length e ≡ length f → ((n : ℕ) → n ∈ f → n < 2 ^ 64) → pairs e f ≡ sort leb (pairs ks R) → r .refusal .number ≡ 0
       → RerankIs m s q C r e f
   ranked few e f h i p z =
+      let k = by-key m s q ok C below (rw refusal-is at z) in
       let t = resorted (keyAt m s q) C (λ n j. let b = below n j in omega (arith, b)) ks e f (M .keys z ∙ ap (map (keyAt m s q)) by-row) h i (p ∙ ap (λ l. sort leb (pairs ks l)) by-row) in
-      record { refusal = refusal-is; measured = measured-is; rows = λ y. t .1 ∙ by-key z; keys = λ y. t .0 ∙ ap (map (keyAt m s q)) (by-key z) }
+      record { refusal = refusal-is; measured = measured-is; rows = λ y. t .1 ∙ k; keys = λ y. t .0 ∙ ap (map (keyAt m s q)) k }
 
   pub not-ranked : (r .refusal .number ≡ 0 → ⊥) → (e f : List ℕ) → RerankIs m s q C r e f
   not-ranked some e f = record { refusal = refusal-is; measured = measured-is; rows = λ y. absurd (some y); keys = λ y. absurd (some y) }

@@ -19,10 +19,10 @@ use Rattle.config.specs.declared.Refusal.{Refusal}
 use Rattle.config.proofs.Refusals.{not-zero, held-number}
 use Rattle.format.specs.Fields.{metricAt, dimensionsOf}
 use Rattle.format.specs.Head.{lengthsOk}
-use Rattle.format.specs.Plan.{entryOk}
 use Rattle.format.specs.Layout.{Placed}
 use Rattle.format.specs.declared.Layout.{Layout}
-use Rattle.format.proofs.Entries.{lengths-of, entry-keeps}
+use Rattle.entries.specs.Plan.{entryOk}
+use Rattle.entries.proofs.Entries.{lengths-of, entry-keeps}
 use Rattle.segment.specs.Record.{recordAt, recordOk, startsOf}
 use Rattle.segment.proofs.Records.{good}
 use Rattle.math.specs.Distance.{Readable, original}

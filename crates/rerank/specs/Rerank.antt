@@ -17,8 +17,8 @@ use Rattle.config.specs.declared.Refusal.{Refusal}
 use Rattle.format.specs.Order.{firstRefusal}
 use Rattle.format.specs.Fields.{metricAt, dimensionsOf}
 use Rattle.format.specs.Layout.{Placed}
-use Rattle.format.specs.Plan.{rowsOk}
 use Rattle.format.specs.declared.Layout.{Layout}
+use Rattle.entries.specs.Plan.{rowsOk}
 use Rattle.segment.specs.Record.{startsOf}
 use Rattle.math.specs.Distance.{inverseNorm}
 use Rattle.search_spec.specs.Lists.{originalAt, byOriginal}

@@ -6,6 +6,7 @@ use mathlib.Core.List.{List, [], _∷_, map}
 use Prim.Native.Nat.{ℕ, zero, suc, _≤_, _<_}
 use native.Mathlib.Omega.{arith}
 use lib.Dec.{leb, eqb}
+use lib.Ieee.{Float}
 use lib.ListN.{length, getD, take}
 use borrow.Author.Tests.{eqb-true, eqb-false, eq-eqb, ne-eqb}
 use Rattle.le.proofs.Chain.{by, lt-or-le}
@@ -22,8 +23,6 @@ use Rattle.config.specs.Refusal.{none, refusedOr}
 use Rattle.config.specs.declared.Refusal.{Refusal}
 use Rattle.config.proofs.Refusals.{none-refused, goes-on, is-done}
 use Rattle.format.specs.Fields.{rowsOf, idAt}
-use Rattle.format.specs.Plan.{badEntry, rowsOk}
-use Rattle.format.proofs.Entries.{ids-rise, rows-by}
 use Rattle.format.specs.declared.Head.{Head}
 use Rattle.search_spec.specs.Lent.{Rows, Call, Singles}
 use Rattle.search_spec.specs.Tests.{frontNumber}
@@ -32,16 +31,18 @@ use Rattle.search_spec.specs.Scan.{recordRefusal, scanRefusal, recordsRe
 use Rattle.search_spec.specs.Outcome.{listOf, samePlaces, agreementOf, filled, lateRefusal, outcomeBy, searched, agreed, Succeeds}
 use Rattle.format.proofs.Refusals.{all-none}
 use Rattle.format.proofs.Same.{same-parts}
+use Rattle.entries.specs.Plan.{badEntry, rowsOk}
+use Rattle.entries.proofs.Entries.{ids-rise, rows-by}
 use Rattle.search_spec.proofs.Passed.{Front, done-front}
 use Rattle.search_spec.proofs.Prefix.{prefix, Part, same-prefix}
 use Rattle.search_spec.proofs.Keys.{Late, late, records-each, in-library, in-eligible, list-by-key, exact-by-key}
 
 -- fewer records to look at
-records-fewer : (c : Call) (looked more : List ℕ) → ((r : ℕ) → r ∈ looked → r ∈ more) → recordsRefusal (c .manifest) (c .segments) (c .query) more .number ≡ 0 → recordsRefusal (c .manifest) (c .segments) (c .query) looked ≡ none
+pub records-fewer : (m s : List ℕ) (query : List Float) (looked more : List ℕ) → ((r : ℕ) → r ∈ looked → r ∈ more) → recordsRefusal m s query more .number ≡ 0 → recordsRefusal m s query looked ≡ none
 unfolding recordsRefusal
-records-fewer c looked more i h =
+records-fewer m s query looked more i h =
     let rs = sort leb looked in
-    all-none (λ j. recordRefusal (c .manifest) (c .segments) (c .query) (getD rs j 0)) (length rs) (λ j l. records-each (c .manifest) (c .segments) (c .query) more h (getD rs j 0) (i (getD rs j 0) (from-sort leb (getD rs j 0) looked (mem-getD rs j 0 l))))
+    all-none (λ j. recordRefusal m s query (getD rs j 0)) (length rs) (λ j l. records-each m s query more h (getD rs j 0) (i (getD rs j 0) (from-sort leb (getD rs j 0) looked (mem-getD rs j 0 l))))
 
 late-fewer : (rows : Rows) (c : Call) (looked more : List ℕ) → ((r : ℕ) → r ∈ looked → r ∈ more) → lateRefusal rows c more .number ≡ 0 → lateRefusal rows c looked .number ≡ 0
 unfolding lateRefusal
@@ -50,7 +51,7 @@ late-fewer rows c looked more i h =
     rw (eq-eqb (badEntry (c .manifest)) (rowsOf (c .manifest)) (t .entries))
     (by (eqb (c .k) 0) (λ e. rw e)
     (λ e. let n = eqb-false (c .k) 0 e in
-    rw (e, eq-eqb (scanRefusal rows c .number) 0 (t .scan n), records-fewer c looked more i (t .records n))))
+    rw (e, eq-eqb (scanRefusal rows c .number) 0 (t .scan n), records-fewer (c .manifest) (c .segments) (c .query) looked more i (t .records n))))
 
 module _ (head : Head) (rows : Rows) (c : Call) (h : Succeeds (agreed head rows c)) where
   -- where the agreement call succeeds, the search does
@@ -128,7 +129,7 @@ module _ (head : Head) (rows : Rows) (c : Call) (h : Succeeds (agreed head rows 
     unfolding candidateRows candidates listed
     list-is =
         let m = c .manifest in
-        let r = ap (λ (x : Refusal). x .number) (records-fewer c (candidateRows rows c) (eligibleRows c) (in-eligible rows c) (tests .records n)) in
+        let r = ap (λ (x : Refusal). x .number) (records-fewer m (c .segments) (c .query) (candidateRows rows c) (eligibleRows c) (in-eligible rows c) (tests .records n)) in
         list-by-key rows c entered (same-parts m head (passed .same) .0) f (passed .query) r
 
     pub parts : Part (byKey key) (order key) (listedRows rows c) ranked
@@ -145,7 +146,7 @@ module _ (head : Head) (rows : Rows) (c : Call) (h : Succeeds (agreed head rows 
         }
         )
 
-    count-some : agreementOf rows c ≡ prefix (listedRows rows c) ranked
+    count-some : agreementOf rows c ≡ samePlaces (listedRows rows c) ranked
     unfolding agreementOf least
     count-some =
         let m = c .manifest in
@@ -155,13 +156,24 @@ module _ (head : Head) (rows : Rows) (c : Call) (h : Succeeds (agreed head rows 
         samePlaces-map (idAt m) (listedRows rows c) (exactRows c) (λ x y i j q. one-row m entered x y (in-list x i) (in-exact y j) q)
         ∙ ap (samePlaces (listedRows rows c)) e
         ∙ samePlaces-take (c .k) (listedRows rows c) ranked few
-        ∙ same-prefix (byKey key) (order key) (listedRows rows c) ranked parts
 
-  count-none : c .k ≡ 0 → agreementOf rows c ≡ prefix (listedRows rows c) ranked
-  unfolding agreementOf samePlaces prefix least
-  count-none z =
-      let e : listedRows rows c ≡ [] = unfold listedRows in ap (λ (k : ℕ). least (byOriginal (c .manifest) (c .segments) (c .query)) k (candidateRows rows c)) z in
-      rw e
+  -- with k = 0 nothing is listed
+  list-none : c .k ≡ 0 → listedRows rows c ≡ []
+  unfolding listedRows least
+  list-none z = ap (λ (k : ℕ). least (byOriginal (c .manifest) (c .segments) (c .query)) k (candidateRows rows c)) z
+
+  -- the count is that of rows, over all eligible ones
+  pub count-rows : agreementOf rows c ≡ samePlaces (listedRows rows c) ranked
+  count-rows =
+      by (eqb (c .k) 0)
+      (λ e. unfold agreementOf in unfold samePlaces in rw (list-none (eqb-true (c .k) 0 e)))
+      (λ e. count-some (eqb-false (c .k) 0 e))
+
+  count-prefix : samePlaces (listedRows rows c) ranked ≡ prefix (listedRows rows c) ranked
+  count-prefix =
+      by (eqb (c .k) 0)
+      (λ e. unfold samePlaces in unfold prefix in rw (list-none (eqb-true (c .k) 0 e)))
+      (λ e. same-prefix (byKey key) (order key) (listedRows rows c) ranked (parts (eqb-false (c .k) 0 e)))
 
   -- the agreement count: the places before the first at which the list and all eligible rows in order differ. With the laws of Prefix: as many as
   -- rows of the list come before the least eligible row that is not listed
@@ -169,4 +181,4 @@ module _ (head : Head) (rows : Rows) (c : Call) (h : Succeeds (agreed head rows 
   unfolding agreed outcomeBy
   agreement-is =
       is-done (refusedOr (frontNumber head c) (lateRefusal rows c (eligibleRows c))) (agreementOf rows c) 0 h
-      ∙ by (eqb (c .k) 0) (λ e. count-none (eqb-true (c .k) 0 e)) (λ e. count-some (eqb-false (c .k) 0 e))
+      ∙ count-rows ∙ count-prefix

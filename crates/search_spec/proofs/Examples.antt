@@ -6,17 +6,15 @@ use Prim.Native.Nat.{ℕ}
 use lib.ListN.{replicate}
 use lib.Ieee.{toBits, ofBits, add, sub, mul, div, neg, lt, le, eq, isNan, ofInt}
 use Rattle.le.specs.Le.{le as number, bytes, paste}
-use Rattle.float.specs.Values.{one, two}
 use Rattle.float.specs.Hold.{maxZero, clamp}
-use Rattle.float.specs.SquareRoot.{sqrtOf}
 use Rattle.float.specs.Order.{totalBelow}
+use Rattle.root.specs.SquareRoot.{sqrtOf}
 use Rattle.rank.specs.Sort.{insert, sort, least}
 use Rattle.rank.specs.Rows.{passing}
 use Rattle.rank.specs.Order.{byDistance}
 use Rattle.rank.specs.Limit.{among}
 use Rattle.utf8.specs.Grammar.{span}
 use Rattle.utf8.specs.Utf8.{valid}
-use Rattle.config.specs.Refusal.{none, refused}
 use Rattle.config.specs.Metric.{metricOf}
 use Rattle.config.specs.Space.{validConfig, validSpace}
 use Rattle.config.specs.Vector.{all, validVector, patternsAt}
@@ -30,8 +28,8 @@ use Rattle.row.specs.Answer.{measured, answer, rowAnswer}
 use Rattle.format.specs.Order.{firstFrom, firstRefusal}
 use Rattle.format.specs.Fields.{generationOf, sequenceOf, dimensionsOf, mOf, efOf, seedOf, metricByte, metricAt, modelLength, modelOf, segmentsOf, rowsOf, tableAt, entriesAt, lengthOf, idAt, segmentAt, offsetAt, metadataAt, recordLength}
 use Rattle.format.specs.Head.{opensOk, kindOk, identityOk, countsOk, headNumber, lengthsOk, headAt}
-use Rattle.format.specs.Plan.{rises, entryOk}
 use Rattle.format.specs.Same.{sameBytes, sameConfig, sameFields, sameHead}
+use Rattle.entries.specs.Plan.{rises, entryOk}
 use Rattle.segment.specs.Record.{startOf, recordAt, partsOk, recordOk}
 use Rattle.quantized_cache.specs.Open.{cacheLengthOk}
 use Rattle.resident.specs.Build.{lengthsOk as residentLengthsOk}
@@ -42,7 +40,6 @@ use Rattle.search_spec.specs.Lists.{isEligible, eligible, eligibleRows, 
 use Rattle.search_spec.specs.Scan.{rowRefusal, rowsRefusal, scanRefusal, recordRefusal, recordsRefusal}
 use Rattle.search_spec.specs.Outcome.{placeOf, measuredRows, reportOf, listOf, samePlaces, agreementOf, filled, cleared, lateRefusal, outcomeBy, searched, agreed}
 use Rattle.search_spec.specs.Kept.{cachedRows, residentRows}
-use Rattle.search_spec.specs.Records.{Listed, handOutRefusal, listedUpto, handedOut}
 use Rattle.search_spec.proofs.Example.{Example}
 use Rattle.search_spec.proofs.Cosine.{Cosine}
 
@@ -50,10 +47,6 @@ use Rattle.search_spec.proofs.Cosine.{Cosine}
 abbrev room : ℕ → ℕ → ℕ → ℕ → ℕ → ℕ → ℕ → ℕ → Room
 room ids distances rows starts lengths keys candidates wanted =
     record { ids = ids; distances = distances; rows = rows; starts = starts; lengths = lengths; keys = keys; candidates = candidates; wanted = wanted }
-
--- what stands in a slice of records
-abbrev old : Listed
-old = record { distance = one; id = 7; row = 7 }
 
 pub record Examples : Type 0 where
   pub document : Example
@@ -65,17 +58,9 @@ pub record Examples : Type 0 where
   pub room-holds : roomOk 3 2 5 1 (room 2 2 2 2 2 3 3 1) ≡ true
   pub room-ends : map (roomOk 3 2 5 1) (room 1 2 2 2 2 3 3 1 ∷ room 2 1 2 2 2 3 3 1 ∷ room 2 2 1 2 2 3 3 1 ∷ room 2 2 2 1 2 3 3 1 ∷ room 2 2 2 2 1 3 3 1 ∷ room 2 2 2 2 2 2 3 1 ∷ room 2 2 2 2 2 3 2 1 ∷ room 2 2 2 2 2 3 3 0 ∷ [])
       ≡ replicate 8 false
-  -- records: one of two handed out; a slice of records that is too short, and stays; a count over one of the answer slices
-  pub handed-1 : handedOut (5 ∷ 8 ∷ []) (two ∷ one ∷ []) (3 ∷ 4 ∷ []) 1 (old ∷ old ∷ []) ≡ record { distance = two; id = 5; row = 3 } ∷ old ∷ []
-  pub handed-short : handedOut (5 ∷ 8 ∷ []) (two ∷ one ∷ []) (3 ∷ 4 ∷ []) 2 (old ∷ []) ≡ old ∷ []
-  pub handed-20 : handOutRefusal (5 ∷ 8 ∷ []) (two ∷ one ∷ []) (3 ∷ 4 ∷ []) 2 1 ≡ refused 20 0
-  pub handed-ids : handOutRefusal (5 ∷ []) (two ∷ one ∷ []) (3 ∷ 4 ∷ []) 2 2 ≡ refused 20 0
-  pub handed-distances : handOutRefusal (5 ∷ 8 ∷ []) (two ∷ []) (3 ∷ 4 ∷ []) 2 2 ≡ refused 20 0
-  pub handed-rows : handOutRefusal (5 ∷ 8 ∷ []) (two ∷ one ∷ []) (3 ∷ []) 2 2 ≡ refused 20 0
-  pub handed-2 : handOutRefusal (5 ∷ 8 ∷ []) (two ∷ one ∷ []) (3 ∷ 4 ∷ []) 2 2 ≡ none
 
 pub examples : Examples
-unfolding insert sort least passing byDistance among totalBelow span number bytes paste maxZero valid metricOf validConfig validSpace all validVector patternsAt dot squares within validRow largestFrom scaleBy notAbove codeOf encode midpointsOf fold2 finished original squaredL2 distanceOf approximate measured answer rowAnswer firstFrom generationOf sequenceOf dimensionsOf mOf efOf seedOf metricByte metricAt modelLength modelOf segmentsOf rowsOf tableAt entriesAt lengthOf idAt segmentAt offsetAt metadataAt recordLength opensOk kindOk identityOk countsOk headNumber lengthsOk headAt rises entryOk sameBytes sameConfig sameFields sameHead startOf recordAt partsOk recordOk wants openBy queryBy frontBy isEligible eligible eligibleRows encoded approximateAt originalAt candidateRows listedRows exactRows firstRefusal rowRefusal rowsRefusal scanRefusal recordRefusal recordsRefusal placeOf measuredRows reportOf listOf samePlaces agreementOf filled cleared lateRefusal outcomeBy searched agreed cachedRows residentRows cacheLengthOk residentLengthsOk rowBytes rowAt signed ofBits add sub mul div neg lt le eq isNan ofInt toBits inverse clamp sqrtOf cosineBy handOutRefusal listedUpto handedOut
+unfolding insert sort least passing byDistance among totalBelow span number bytes paste maxZero valid metricOf validConfig validSpace all validVector patternsAt dot squares within validRow largestFrom scaleBy notAbove codeOf encode midpointsOf fold2 finished original squaredL2 distanceOf approximate measured answer rowAnswer firstFrom generationOf sequenceOf dimensionsOf mOf efOf seedOf metricByte metricAt modelLength modelOf segmentsOf rowsOf tableAt entriesAt lengthOf idAt segmentAt offsetAt metadataAt recordLength opensOk kindOk identityOk countsOk headNumber lengthsOk headAt rises entryOk sameBytes sameConfig sameFields sameHead startOf recordAt partsOk recordOk wants openBy queryBy frontBy isEligible eligible eligibleRows encoded approximateAt originalAt candidateRows listedRows exactRows firstRefusal rowRefusal rowsRefusal scanRefusal recordRefusal recordsRefusal placeOf measuredRows reportOf listOf samePlaces agreementOf filled cleared lateRefusal outcomeBy searched agreed cachedRows residentRows cacheLengthOk residentLengthsOk rowBytes rowAt signed ofBits add sub mul div neg lt le eq isNan ofInt toBits inverse clamp sqrtOf cosineBy
 examples = record {
   document = record {
     report-1 = refl;
@@ -137,11 +122,4 @@ examples = record {
   bounds-end = refl;
   room-holds = refl;
   room-ends = refl;
-  handed-1 = refl;
-  handed-short = refl;
-  handed-20 = refl;
-  handed-ids = refl;
-  handed-distances = refl;
-  handed-rows = refl;
-  handed-2 = refl;
 }

@@ -26,10 +26,10 @@ use Rattle.config.proofs.Coordinates.{floats-fit}
 use Rattle.quantization.specs.View.{View, validRow}
 use Rattle.format.specs.Fields.{dimensionsOf, rowsOf, metricAt, idAt}
 use Rattle.format.specs.Head.{headNumber}
-use Rattle.format.specs.Plan.{badEntry, rowsOk}
 use Rattle.format.proofs.Heads.{bounds}
-use Rattle.format.proofs.Entries.{ids-rise}
 use Rattle.format.proofs.Refusals.{each-none}
+use Rattle.entries.specs.Plan.{badEntry, rowsOk}
+use Rattle.entries.proofs.Entries.{ids-rise}
 use Rattle.segment.specs.Record.{recordAt, vectorOf, recordOk}
 use Rattle.segment.proofs.Records.{good}
 use Rattle.math.proofs.Distances.{original-in}

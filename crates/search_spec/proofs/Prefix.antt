@@ -3,11 +3,12 @@
 -- Assumes nothing.
 use mathlib.Core.Path.{_≡_, refl, sym, _∙_}
 use mathlib.Core.Logic.{_≢_, inl, inr, ⊎-elim}
-use mathlib.Core.Bool.{Bool, true, false, cond}
+use mathlib.Core.Bool.{Bool, true, false, true≢false, cond}
 use mathlib.Core.List.{List, [], _∷_}
-use Prim.Native.Nat.{ℕ, suc}
+use Prim.Native.Nat.{ℕ, zero, suc, _≤_, _<_}
+use native.Mathlib.Omega.{arith}
 use lib.Dec.{eqb}
-use lib.ListN.{length}
+use lib.ListN.{length, getD}
 use borrow.Author.Tests.{eqb-true, eqb-false, ne-eqb}
 use Rattle.le.proofs.Chain.{by}
 use Rattle.rank.specs.Sort.{_∈_, Distinct, TotalOrder, Ascending}
@@ -128,3 +129,47 @@ module _ (le : ℕ → ℕ → Bool) (O : TotalOrder le) where
       (λ t. let q = eqb-true x y t in
       rw (t, prefix-all l e (tails q p) (λ w j. ⊎-elim (λ h. absurd (p .all-once .0 w j (sym q ∙ sym h))) (λ i. i) (k w (inr j)))))
       (λ t. absurd (lacks (eqb-false x y t) p (k y (inl refl))))
+
+  -- one of e that l lacks comes before x, or is x
+  pub record Stops (l e : List ℕ) (x : ℕ) : Type 0 where
+    pub one : ℕ
+    pub in-all : one ∈ e
+    pub missing : ¬ (one ∈ l)
+    pub first : le one x ≡ true
+
+  -- all of e that l lacks comes after its first n places, and where l goes on some of that comes before the next
+  pub record Agrees (l e : List ℕ) (n : ℕ) : Type 0 where
+    pub fits : n ≤ length l
+    pub later : (y j : ℕ) → y ∈ e → ¬ (y ∈ l) → j < n → le y (getD l j 0) ≡ false
+    pub stop : n < length l → Stops l e (getD l n 0)
+
+  pub prefix-agrees : (l e : List ℕ) (n : ℕ) → Part l e → Agrees l e n → prefix l e ≡ n
+  unfolding prefix
+  prefix-agrees [] e n p k = let h = k .fits in omega arith
+  prefix-agrees (x ∷ l) [] n p k = absurd (p .within x (inl refl))
+  prefix-agrees (x ∷ l) (y ∷ e) zero p k =
+      by (eqb x y)
+      (λ t. let q = eqb-true x y t in
+      let s = k .stop (omega arith) in
+      absurd (s .missing (inl (⊎-elim (λ h. h ∙ sym q) (λ j. O .antisym (s .first) (rw q (p .all-up .0 (s .one) j))) (s .in-all)))))
+      (λ t. rw t)
+  prefix-agrees (x ∷ l) (y ∷ e) (suc n) p k =
+      by (eqb x y)
+      (λ t. let q = eqb-true x y t in
+      let still : (w : ℕ) → w ∈ e → ¬ (w ∈ l) → ¬ (w ∈ (x ∷ l)) = λ w j m. ⊎-elim (λ h. p .all-once .0 w j (sym q ∙ sym h)) m in
+      rw (
+        t,
+        prefix-agrees l e n (tails q p) (record {
+          fits = let h = k .fits in omega arith;
+          later = λ w j i m h. k .later w (suc j) (inr i) (still w i m) (omega arith);
+          stop = λ h. let s = k .stop (omega arith) in
+              record {
+                one = s .one;
+                in-all = ⊎-elim (λ g. absurd (s .missing (inl (g ∙ sym q)))) (λ j. j) (s .in-all);
+                missing = λ j. s .missing (inr j);
+                first = s .first;
+              };
+        }),
+      ))
+      (λ t. let n = eqb-false x y t in
+      absurd (true≢false (sym (head-later n p) ∙ k .later y 0 (inl refl) (lacks n p) (omega arith))))

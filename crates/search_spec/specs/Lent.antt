@@ -20,7 +20,7 @@ abbrev pub base : Encoding
 base = record { levels = baseLevels; mids = midpoints }
 
 -- The rows to be scanned, cached or resident: their encoding; whether they have the length that they were opened or built with and need
--- (document 01, table, 21: "the cache or resident length differs"; readings R3); and row n as it is seen.
+-- (document 01, What each place turns away, 21: "the cache or resident length differs"; readings R3); and row n as it is seen.
 pub record Rows : Type 0 where
   pub encoding : Encoding
   pub lengthOk : Bool

@@ -5,4 +5,3 @@ pub mod Lists
 pub mod Scan
 pub mod Outcome
 pub mod Kept
-pub mod Records

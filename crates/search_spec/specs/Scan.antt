@@ -26,7 +26,7 @@ rowRefusal levels m eligible view query r = refusalOf (rowAnswer levels (metricA
 unfoldable pub rowsRefusal : ℕ → List ℕ → (ℕ → Bool) → (ℕ → View) → View → Refusal
 rowsRefusal levels m eligible view query = firstRefusal (rowRefusal levels m eligible view query) (rowsOf m)
 
--- the record of row r: "23: .. the record passes the end of the segments or fails a record test of 5", then "24: original distance not finite"
+-- the record of row r: "23, ..: the record passes the end of the segments or fails a record test of 5", then "24: original distance not finite"
 unfoldable pub recordRefusal : List ℕ → List ℕ → List Float → ℕ → Refusal
 recordRefusal m s query r = cond (recordOk m s r) (cond (finite (originalAt m s query r)) none (refused 24 r)) (refused 23 r)
 

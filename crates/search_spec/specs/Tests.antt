@@ -12,9 +12,9 @@ use Rattle.config.specs.Vector.{validVector}
 use Rattle.config.specs.declared.Refusal.{Refusal}
 use Rattle.format.specs.Order.{unless, orElse}
 use Rattle.format.specs.Fields.{dimensionsOf, rowsOf, metricAt}
-use Rattle.format.specs.Plan.{badEntry}
 use Rattle.format.specs.Same.{sameHead}
 use Rattle.format.specs.declared.Head.{Head}
+use Rattle.entries.specs.Plan.{badEntry}
 use Rattle.search_spec.specs.declared.Room.{Room}
 use Rattle.search_spec.specs.Lent.{Answers, Work, Call, handed}
 

@@ -23,7 +23,7 @@ pub struct Place {
     pub length: u32,
 }
 
-// The Rust's `QuantizedSearchReport`, with the count of places.
+// The Rust's `GenerationSearchReport`, with the count of places.
 pub struct Report {
     pub generation: u64,
     pub sequence: u64,

@@ -1,23 +1,34 @@
 use native.Mathlib.Omega.{arith}
 use borrow.Author.Needs.{needs}
-use mathlib.Core.Path.{_≡_, sym, _∙_}
-use Prim.Native.Nat.{ℕ, _^_, _≤_, _<_}
+use mathlib.Core.Path.{sym, _∙_}
 use lib.ListN.{length, length-take}
-use Rattle.rank.specs.Sort.{_∈_}
-use Rattle.rank.proofs.Members.{all-at}
-use Rattle.shortlist.proofs.Joined.{fits, rows-are, rows-in, joined, refused-first}
+use Rattle.row.specs.Answer.{viewOf}
+use Rattle.format.specs.Fields.{rowsOf, dimensionsOf}
+use Rattle.quantized_cache.specs.Open.{cachedAt}
+use Rattle.search_spec.specs.Lent.{given, everyone}
+use Rattle.search_spec.specs.Lists.{isEligible}
+use Rattle.shortlist.proofs.Joined.{Scanned, fits, cut-keys, cut-rows, rows-are, kept, joined, refused-first}
 use Rattle.shortlist.proofs.cached.Statement.{statement}
 use Rattle.shortlist.proofs.cached.Tie as tie
 
-words : (c : tie.After-slice-known4) → (n : ℕ) → n ∈ (c .before .before .before .before .cached .last .1 .1 .1 .1 .1 .1 .1 .1 .1 .1 .1 .0) → n < 2 ^ 64
-words c = all-at (λ z. z < 2 ^ 64) (c .before .before .before .before .cached .last .1 .1 .1 .1 .1 .1 .1 .1 .1 .1 .1 .0) 0 (λ i l. omega (arith, c .slice-known4 .given i))
+abbrev start : tie.After-slice-known4 → tie.Start
+start c = c .before .before .before .before .before .before .before .before .before .before .before .before .before .before
 
--- the lengths of the slices after the scan
-long : (c : tie.After-slice-known4) → let k = c .before .before .before .before .cached in let n = length (c .before .before .before .before .before .before .before .before .before .before .before .before .before .before .args .ks .now) in (length (k .last .1 .1 .1 .1 .1 .1 .1 .1 .1 .1 .0) ≡ n) × (length (k .last .1 .1 .1 .1 .1 .1 .1 .1 .1 .1 .1 .0) ≡ n)
-long c = let k = c .before .before .before .before .cached in (k .kept .1 .1 .1 .1 .1 .1 .1 .1 .1 .1 .0, k .kept .1 .1 .1 .1 .1 .1 .1 .1 .1 .1 .1 .0 ∙ sym (c .before .before .before .before .before .before .before .before .before .before .before .before .before .before .pre .1 .0 .1))
-
-fit : (c : tie.After-slice-known4) → c .before .before .before .before .cached .result .count ≤ length (c .before .before .before .before .before .before .before .before .before .before .before .before .before .before .args .ks .now)
-fit c = fits (c .before .before .before .before .before .before .before .before .before .before .before .before .before .before .pre .0 .0 .placed .most) (c .before .before .before .before .cached .ensures) (long c .0) (long c .1) (words c)
+-- after the scan
+here : (c : tie.After-slice-known4) → let a = start c .args in
+    let m = a .m .now in
+    let k = c .before .before .before .before .cached in
+    Scanned (a .levels) m (isEligible (given (a .all) (a .sorted .now)) everyone m) (cachedAt (rowsOf m) (dimensionsOf m) (a .cache .now)) (viewOf (a .query .scale) (a .query .norm) (a .q .now)) (length (a .ks .now)) (k .result) (k .last .1 .1 .1 .1 .1 .1 .1 .1 .1 .1 .0) (k .last .1 .1 .1 .1 .1 .1 .1 .1 .1 .1 .1 .0)
+here c =
+    let p = start c .pre in
+    let k = c .before .before .before .before .cached in
+    record {
+      few = p .0 .0 .placed .most;
+      scan = k .ensures;
+      keys-long = k .kept .1 .1 .1 .1 .1 .1 .1 .1 .1 .1 .0;
+      rows-long = k .kept .1 .1 .1 .1 .1 .1 .1 .1 .1 .1 .1 .0 ∙ sym (p .1 .0 .1);
+      words = λ i. omega (arith, c .slice-known4 .given i);
+    }
 
 pub cached-spec : {M : Type 1} → statement M
 cached-spec =
@@ -25,32 +36,19 @@ cached-spec =
     (tie.spec
     (λ c κs. let p = c .before .before .before .before .before .before .before .before .before .pre in
     let l = p .0 .0 in ((l .placed, l .rows, p .0 .2, p .1 .1 .0), ((p .1 .0 .0, l .metric, p .1 .0 .1, p .1 .0 .2), (p .1 .1 .1, p .1 .1 .2, p .1 .1 .3))))
-    (λ c. let d = c .before .before .before in omega (arith, fit d, long d .0))
-    (λ c. let d = c .before .before .before .before in simp length-take (omega (arith, fit d, long d .0)))
-    (λ c. let d = c .before .before .before .before in omega (arith, fit d, long d .1))
-    (λ c. let d = c .before .before .before .before .before in simp length-take (omega (arith, fit d, long d .1)))
+    (λ c. let H = here (c .before .before .before) in omega (arith, fits H, H .keys-long))
+    (λ c. let H = here (c .before .before .before .before) in simp length-take (omega (arith, fits H, H .keys-long)))
+    (λ c. let H = here (c .before .before .before .before) in omega (arith, fits H, H .rows-long))
+    (λ c. let H = here (c .before .before .before .before .before) in simp length-take (omega (arith, fits H, H .rows-long)))
     (λ c κs. let d = c .before .before .before .before .before in
-    let b = d .before .before .before .before .before .before .before .before .before .before .before .before .before .before in
-    let k = d .before .before .before .before .cached in
-    let n = k .result .count in (
-      b .pre .0 .0,
-      b .pre .0 .1,
-      rows-in (b .pre .0 .0 .placed .most) (k .ensures) (long d .0) (long d .1) (words d) (c .before .before .if1 .taken) (b .pre .0 .0 .placed .rows),
-      omega (arith, length-take n (k .last .1 .1 .1 .1 .1 .1 .1 .1 .1 .1 .0), length-take n (k .last .1 .1 .1 .1 .1 .1 .1 .1 .1 .1 .1 .0), long d .0, long d .1),
-    ))
+    (start d .pre .0, (cut-keys (here d) ∙ sym (cut-rows (here d)), kept (here d) (c .before .before .if1 .taken))))
     (λ c. search needs)
     (λ c. search needs)
-    (λ c. let d = c .before .before .before .before .before .before .before .before .before .before in
-    let b = d .before .before .before .before .before .before .before .before .before .before .before .before .before .before in
-    let k = d .before .before .before .before .cached in
-    let n = k .result .count in
-    let r = c .before .before .before .before .rerank in
+    (λ c. let H = here (c .before .before .before .before .before .before .before .before .before .before) in
     let z = c .before .before .before .before .before .before .before .if1 .taken in
-    let few = b .pre .0 .0 .placed .most in
-    joined few (k .ensures) (long d .0) (long d .1) (words d) z
-    (r .kept .1 .1 .1 .1 .1 .1 .1 .0 ∙ length-take n (k .last .1 .1 .1 .1 .1 .1 .1 .1 .1 .1 .0) ∙ omega (arith, fit d, long d .0)) (r .kept .1 .1 .1 .1 .1 .1 .1 .1 .0 ∙ length-take n (k .last .1 .1 .1 .1 .1 .1 .1 .1 .1 .1 .1 .0) ∙ omega (arith, fit d, long d .1))
-    (r .ensures _ (rows-are few (k .ensures) (long d .0) (long d .1) (words d) z)) _ _)
+    let r = c .before .before .before .before .behind in
+    joined H z (r .kept .1 .1 .1 .1 .1 .1 .1 .1 .1 .1 .1 .0) (r .kept .1 .1 .1 .1 .1 .1 .1 .1 .1 .1 .1 .1 .0) (r .ensures _ (rows-are H z)) _ _)
+    (λ c κs. search needs)
     (λ c. search needs)
     (λ c. search needs)
-    (λ c. let d = c .before .before .before in
-    refused-first (d .before .before .before .before .before .before .before .before .before .before .before .before .before .before .pre .0 .0 .placed .most) (d .before .before .before .before .cached .ensures) (long d .0) (long d .1) (words d) (c .if1 .left)))
+    (λ c. rw (c .refused .ensures) (refused-first (here (c .before .before .before .before)) (c .before .if1 .left))))

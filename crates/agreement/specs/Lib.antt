@@ -1,0 +1,2 @@
+-- The agreement count, over a list and all eligible rows.
+pub mod Count
