@@ -1,46 +1,18 @@
 use borrow.Author.Needs.{needs}
-use mathlib.Core.Path.{_≡_, sym, _∙_}
-use Rattle.search_spec.specs.Lent.{Rows, Call, given, answersOf, workOf, callOf}
-use Rattle.search_spec.specs.Tests.{frontNumber}
-use Rattle.search_spec.specs.Kept.{cachedRows}
-use Rattle.search.proofs.Ended.{front-refused, front-passed, cleared-same}
 use Rattle.search.proofs.over_cache.Statement.{statement}
 use Rattle.search.proofs.over_cache.Tie as tie
-
-abbrev call : tie.Start → Call
-call c = let a = c .args in callOf (a .m .now) (a .segments .now) (given (a .all) (a .wanted .now)) (a .query .now) (a .k) (a .limit) (answersOf (a .ids .now) (a .distances .now) (a .rows .now) (a .places .now) (a .lengths .now)) (workOf (a .keys .now) (a .candidates .now) (a .work .now))
-
-abbrev seen : tie.Start → Rows
-seen c = cachedRows (c .args .m .now) (c .args .state) (c .args .cache .now)
-
-number : (c : tie.After-front) → c .front .result ≡ frontNumber (c .before .before .before .before .before .before .before .before .before .before .before .before .before .before .before .before .args .state .head) (call (c .before .before .before .before .before .before .before .before .before .before .before .before .before .before .before .before))
-number c = rw (c .before .handed-in .ensures) at (c .front .ensures)
-
-returns : tie.Need-returns
-returns c =
-    let b = c .before .before .before .before .before .before .before .before .before .before .before .before .before .before .before .before .before .before in
-    let h = front-refused (b .args .state .head) (seen b) (call b) (number (c .before .before)) (c .before .if1 .taken) (c .turned-away .ensures) in
-    (h .is, h .leaves, h .clears)
-
-returns-2 : tie.Need-returns-2
-returns-2 c =
-    let b = c .before .before .before .before .before .before .before .before .before .before .before .before .before .before .before .before .before .before .before .before .before .before .before .before .before .before .before .before .before .before .before .before .before .before .before .before .before .before .before .before .before .before .before .before .before .before .before .before .before .before .before .before in
-    let a = b .args in
-    let p = c .before .before .before .before .before .before .before .before .before .before .before .before .before .before .before .before .before .before .before .before .before .before .before .before .before .before .past in
-    let h = front-passed (b .args .state .head) (seen b) (call b) (sym (number (c .before .before .before .before .before .before .before .before .before .before .before .before .before .before .before .before .before .before .before .before .before .before .before .before .before .before .before .before .before .before .before .before .before .before .before .before)) ∙ c .before .before .before .before .before .before .before .before .before .before .before .before .before .before .before .before .before .before .before .before .before .before .before .before .before .before .before .before .before .before .before .before .before .before .before .if1 .left) (p .ensures)
-    (c .before .before .before .before .before .before .clear .ensures ∙ cleared-same (p .last .1 .1 .1 .1 .1 .1 .1 .1 .1 .1 .0) (p .last .1 .1 .1 .1 .1 .1 .1 .1 .1 .1 .1 .0) (p .last .1 .1 .1 .1 .1 .1 .0) (a .keys .now) (a .candidates .now) (a .work .now) (p .kept .1 .1 .1 .1 .1 .1 .1 .1 .1 .1 .0) (p .kept .1 .1 .1 .1 .1 .1 .1 .1 .1 .1 .1 .0) (p .kept .1 .1 .1 .1 .1 .1 .0)) in
-    (h .is, h .leaves, h .clears)
 
 pub over-cache-spec : {M : Type 1} → statement M
 over-cache-spec =
     tie.close
     (tie.spec
+    (λ c. search needs)
+    (λ c. search needs)
+    (λ c. search needs)
+    (λ c. search needs)
+    (λ c. search needs)
+    (λ c. search needs)
     (λ c κs. search needs)
-    (λ c κs. search needs)
-    (λ c κs. search needs)
-    returns
-    (λ c κs. sym (number (c .before .before .before .before .before .before .before .before .before)) ∙ c .before .before .before .before .before .before .before .before .if1 .left)
-    (λ c κs. search needs)
     (λ c. search needs)
     (λ c. search needs)
     (λ c. search needs)
@@ -49,4 +21,4 @@ over-cache-spec =
     (λ c. search needs)
     (λ c. search needs)
     (λ c. search needs)
-    returns-2)
+    (λ c. c .before .before .before .before .before .before .before .before .before .before .before .before .before .before .before .before .over .ensures))

@@ -1,0 +1,2 @@
+-- The answer slices as they fill.
+pub mod Places

@@ -1,0 +1,3 @@
+-- The places of listed rows, and the report.
+pub mod Places
+pub mod Report

@@ -1,0 +1,48 @@
+-- The rows that a call sees: they are of the base's encoding, and where the length holds they have room. Assumes nothing.
+use mathlib.Core.Path.{_≡_}
+use mathlib.Core.Bool.{true, false, _&&_}
+use mathlib.Core.List.{List}
+use Prim.Native.Nat.{ℕ, _+_, _*_, _≤_}
+use lib.Dec.{leb, eqb}
+use lib.IntN.{ℤ}
+use lib.Ieee.{Float}
+use lib.ListN.{length}
+use borrow.Author.Tests.{leb-true}
+use Rattle.le.proofs.Chain.{by}
+use Rattle.format.specs.Fields.{rowsOf, dimensionsOf}
+use Rattle.format.proofs.Heads.{both}
+use Rattle.geometry.specs.Cache.{rowLength}
+use Rattle.quantized_cache.specs.Open.{RoomFor, cachedAt, cacheLengthOk}
+use Rattle.resident.specs.Build.{residentAt, lengthsOk, roomOk}
+use Rattle.search_spec.specs.Lent.{base}
+use Rattle.search_spec.specs.Kept.{cachedRows, residentRows}
+use Rattle.call.specs.Seen.{seen}
+use Rattle.call.specs.declared.Kept.{Kept}
+
+module _ (kept : Kept) (m cache : List ℕ) (codes : List ℤ) (scales : List Float) (norms : List ℤ) where
+  pub seen-base : seen kept m cache codes scales norms .encoding ≡ base
+  unfolding cachedRows residentRows
+  seen-base = by (kept .resident) (λ e. rw e) (λ e. rw e)
+
+  pub seen-cached : kept .resident ≡ false → cachedAt (rowsOf m) (dimensionsOf m) cache ≡ seen kept m cache codes scales norms .at
+  unfolding cachedRows
+  seen-cached e = rw e
+
+  pub seen-resident : kept .resident ≡ true → residentAt (dimensionsOf m) codes scales norms ≡ seen kept m cache codes scales norms .at
+  unfolding residentRows
+  seen-resident e = rw e
+
+  pub cache-room : kept .resident ≡ false → seen kept m cache codes scales norms .lengthOk ≡ true → RoomFor (length cache) (rowsOf m) (dimensionsOf m)
+  unfolding cachedRows cacheLengthOk
+  cache-room e h =
+      leb-true (rowsOf m * rowLength (dimensionsOf m) + 4) (length cache)
+      (both {a = eqb (length cache) (kept .cache)} {b = leb (rowsOf m * rowLength (dimensionsOf m) + 4) (length cache)} (rw e at h) .1)
+
+  pub resident-room : kept .resident ≡ true → seen kept m cache codes scales norms .lengthOk ≡ true
+      → (rowsOf m * dimensionsOf m ≤ length codes) × (rowsOf m ≤ length scales) × (rowsOf m ≤ length norms)
+  unfolding residentRows lengthsOk
+  resident-room e h =
+      let r = both {a = eqb (length codes) (kept .codes) && eqb (length scales) (kept .scales) && eqb (length norms) (kept .norms)} {b = roomOk (rowsOf m) (dimensionsOf m) (length codes) (length scales) (length norms)} (rw e at h) .1 in
+      let s = both {a = leb (rowsOf m * dimensionsOf m) (length codes) && leb (rowsOf m) (length scales)} {b = leb (rowsOf m) (length norms)} r in
+      let t = both {a = leb (rowsOf m * dimensionsOf m) (length codes)} {b = leb (rowsOf m) (length scales)} (s .0) in
+      (leb-true (rowsOf m * dimensionsOf m) (length codes) (t .0), leb-true (rowsOf m) (length scales) (t .1), leb-true (rowsOf m) (length norms) (s .1))

@@ -1,0 +1,133 @@
+use borrow.Author.Needs.{needs}
+use native.Mathlib.Omega.{arith}
+use mathlib.Core.Path.{_≡_, sym, ap, _∙_}
+use mathlib.Core.Bool.{true}
+use mathlib.Core.List.{List, []}
+use Prim.Native.Nat.{ℕ, _≤_}
+use lib.ListN.{length, take}
+use lib.Seq.{length-take-le}
+use borrow.Author.Tests.{not-true, not-false}
+use Rattle.config.proofs.Refusals.{not-zero}
+use Rattle.format.specs.Fields.{rowsOf}
+use Rattle.format.proofs.Same.{same-parts}
+use Rattle.entries.specs.Plan.{badEntry, rowsOk}
+use Rattle.entries.proofs.Entries.{rows-by}
+use Rattle.eligible.specs.Walk.{ordered}
+use Rattle.eligible.proofs.Walk.{front, ordered-same, ordered-rows, ordered-rises}
+use Rattle.search_spec.specs.Lent.{Rows, Call, given, handed, everyone, answersOf, workOf, callOf}
+use Rattle.search_spec.specs.Tests.{roomOf}
+use Rattle.call.specs.Seen.{seen}
+use Rattle.call.specs.Ends.{lookedAt}
+use Rattle.search_spec.specs.Lists.{eligibleRows}
+use Rattle.search_spec.proofs.Passed.{Front, front as passed-front, low-limit}
+use Rattle.call.proofs.Ended.{turned, done, ends-as, entries-pass, entries-none, late-entries, late-none, late-short, late-rest, report-none, none-filled, none-agree, same-eligible}
+use Rattle.call.proofs.Found.{fits-room, ids-room, fits-other}
+use Rattle.call.proofs.past.Statement.{statement}
+use Rattle.call.proofs.past.Tie as tie
+
+abbrev call : tie.Start → Call
+call c = let a = c .args in callOf (a .m .now) (a .segments .now) (given (a .all) (a .wanted .now)) (a .query .now) (a .k) (a .limit) (answersOf (a .ids .now) (a .distances .now) (a .rows .now) (a .places .now) (a .lengths .now)) (workOf (a .keys .now) (a .candidates .now) (a .work .now))
+
+abbrev view : tie.Start → Rows
+view c = let a = c .args in seen (a .kept) (a .m .now) (a .cache .now) (a .codes .now) (a .scales .now) (a .norms .now)
+
+abbrev looked : tie.Start → List ℕ
+looked c = lookedAt (c .args .agree) (view c) (call c)
+
+passed : (c : tie.Start) → Front (c .args .kept .head) (call c)
+passed c = passed-front (c .args .kept .head) (call c) (c .pre)
+
+pass : (c : tie.Else1) → badEntry (c .before .before .before .before .before .before .before .before .before .before .before .before .before .before .before .before .before .before .args .m .now) ≡ rowsOf (c .before .before .before .before .before .before .before .before .before .before .before .before .before .before .before .before .before .before .args .m .now)
+pass c = entries-pass (c .before .before .before .before .before .before .before .before .before .before .before .before .before .before .before .before .before .before .args .m .now) (c .before .before .entries .ensures) (c .if1 .left)
+
+rows-hold : (c : tie.Else1) → rowsOk (c .before .before .before .before .before .before .before .before .before .before .before .before .before .before .before .before .before .before .args .m .now) ≡ true
+rows-hold c = let b = c .before .before .before .before .before .before .before .before .before .before .before .before .before .before .before .before .before .before in rows-by (b .args .m .now) (same-parts (b .args .m .now) (b .args .kept .head) (passed b .same) .2) (pass c)
+
+ids-fit : (c : tie.Start) → handed (given (c .args .all) (c .args .wanted .now)) ≤ length (c .args .work .now)
+ids-fit c = let k = call c in ids-room (rowsOf (k .manifest)) (k .k) (k .limit) (handed (k .wanted)) (roomOf (k .answers) (k .work)) (passed c .room)
+
+length-is : (c : tie.After-length-holds) → c .length-holds .result ≡ view (c .before .before .before .before .before .before .before .before .before .before .before .before .before .before .before .before .before .before .before .before .before .before .before .before) .lengthOk
+length-is c = c .length-holds .ensures
+
+-- the front of the id slice
+sorted-long : (c : tie.After-handed-in) → c .handed-in .result ≤ length (c .before .before .before .before .before .before .select .last .1 .1 .1 .1 .0)
+sorted-long c = let e = c .handed-in .ensures in let h = ids-fit (c .before .before .before .before .before .before .before .before .before .before .before .before .before .before .before .before .before .before .before .before .before .before .before .before .before .before) in let k = c .before .before .before .before .before .before .select .kept .1 .1 .1 .1 .0 in omega (arith, e, h, k)
+
+sorted-is : (c : tie.After-handed-in) → let a = c .before .before .before .before .before .before .before .before .before .before .before .before .before .before .before .before .before .before .before .before .before .before .before .before .before .before .args in take (c .handed-in .result) (c .before .before .before .before .before .before .select .last .1 .1 .1 .1 .0) ≡ ordered (given (a .all) (a .wanted .now))
+sorted-is c = rw (c .handed-in .ensures, c .before .before .before .before .before .before .select .ensures .1) (front (given (c .before .before .before .before .before .before .before .before .before .before .before .before .before .before .before .before .before .before .before .before .before .before .before .before .before .before .args .all) (c .before .before .before .before .before .before .before .before .before .before .before .before .before .before .before .before .before .before .before .before .before .before .before .before .before .before .args .wanted .now)) _)
+
+returns : tie.Need-returns
+returns c =
+    let b = c .before .before .before .before .before .before .before .before .before .before .before .before .before .before .before .before .before .before .before in
+    ends-as (late-entries (view b) (call b) (looked b) (c .before .before .before .entries .ensures) (c .before .if1 .taken)) (turned (c .before .if1 .taken) (c .turned-away .ensures))
+
+returns-2 : tie.Need-returns-2
+unfolding eligibleRows
+returns-2 c =
+    let b = c .before .before .before .before .before .before .before .before .before .before .before .before .before .before .before .before .before .before .before .before .before .before .before .before in
+    let z = c .before .if2 .taken in
+    let n = c .before .before .before .before .before .before .if1 .left in
+    ends-as (entries-none (b .args .m .now) (c .before .before .before .before .before .before .before .before .entries .ensures) n ∙ late-none (view b) (call b) (looked b) (pass (c .before .before .before .before .before .before)) z)
+    (done n (c .report-of .ensures ∙ report-none (view b) (call b) (c .before .before .before .before .select .ensures .0) z) (none-agree (b .args .agree) (view b) (call b) z) (none-filled (view b) (call b) z))
+
+returns-3 : tie.Need-returns-3
+returns-3 c =
+    let b = c .before .before .before .before .before .before .before .before .before .before .before .before .before .before .before .before .before .before .before .before .before .before .before .before .before .before in
+    ends-as (late-short (view b) (call b) (looked b) (pass (c .before .before .before .before .before .before .before .before)) (c .before .before .before .if2 .left) (not-true (view b .lengthOk) (rw (length-is (c .before .before)) at (c .before .if3 .taken))))
+    (turned not-zero (c .turned-away2 .ensures))
+
+returns-4 : tie.Need-returns-4
+returns-4 c =
+    let b = c .before .before .before .before .before .before .before .before .before .before .before .before .before .before .before .before .before .before .before .before .before .before .before .before .before .before .before .before .before .before .before .before .before .before .before .before .before .before .before .before .before .before .before .before .before .before .before .before .before in
+    let a = b .args in
+    let k = call b in
+    ends-as (late-rest (view b) k (looked b) (pass (c .before .before .before .before .before .before .before .before .before .before .before .before .before .before .before .before .before .before .before .before .before .before .before .before .before .before .before .before .before .before .before)) (c .before .before .before .before .before .before .before .before .before .before .before .before .before .before .before .before .before .before .before .before .before .before .before .before .before .before .if2 .left))
+    (same-eligible (a .agree) (view b) (a .m .now) (a .segments .now) (a .query .now) (a .k) (a .limit) (k .answers) (workOf (a .keys .now) (a .candidates .now) []) (k .work)
+    (rw (sorted-is (c .before .before .before .before .before .before .before .before .before .before .before .before .before .before .before .before .before .before .before .before .before .before .before)) (ordered-same (a .all) (a .wanted .now) everyone (a .m .now))) (c .before .before .before .before .before .before .before .before .before .before .before .before .before .before .ranked .ensures))
+
+ranked-requires : tie.Need-ranked-requires
+ranked-requires c κs =
+    let b = c .before .before .before .before .before .before .before .before .before .before .before .before .before .before .before .before .before .before .before .before .before .before .before .before .before .before .before .before .before .before .before .before .before .before in
+    let a = b .args in
+    let k = call b in
+    let P = c .before .before .before .before .before .before .before .before .before .before .before .before .before .before .before .before .before .before .before .read-layout .ensures in
+    let s = sorted-is (c .before .before .before .before .before .before .before .before) in
+    let f = passed b in (
+      (P, rows-hold (c .before .before .before .before .before .before .before .before .before .before .before .before .before .before .before .before), not-false (view b .lengthOk) (rw (length-is (c .before .before .before .before .before .before .before .before .before .before)) at (c .before .before .before .before .before .before .before .before .before .if3 .left)), c .before .before .before .before .before .before .before .before .before .before .before .if2 .left, low-limit f),
+      (
+        rw s (ordered-rises (k .wanted)),
+        rw s (c .before .before .before .before .before .before .before .before .before .before .before .before .before .before .select .ensures .0 ∙ ap length (sym (ordered-rows (a .all) (a .wanted .now) everyone (a .m .now)))),
+        f .query,
+        rw (P .rows) (fits-other (k .answers) (a .keys .now) (a .candidates .now) (a .work .now) [] (fits-room (rowsOf (a .m .now)) (a .k) (a .limit) (handed (k .wanted)) (roomOf (k .answers) (k .work)) (f .room))),
+      ),
+    )
+
+pub past-spec : {M : Type 1} → statement M
+past-spec =
+    tie.close
+    (tie.spec
+    (λ c κs. let b = c .before .before .before .before .before .before .before .before .before .before .before .before .before .before in same-parts (b .args .m .now) (b .args .kept .head) (passed b .same) .0)
+    (λ c κs. c .read-layout .ensures)
+    (λ c κs. search needs)
+    returns
+    (λ c κs. ((c .before .before .before .before .read-layout .ensures, rows-hold (c .before)), ids-fit (c .before .before .before .before .before .before .before .before .before .before .before .before .before .before .before .before .before .before .before)))
+    (λ c κs. c .before .before .before .before .before .before .before .before .read-layout .ensures .long)
+    (λ c. search needs)
+    returns-2
+    (λ c κs. c .before .before .before .before .before .before .before .before .read-layout .ensures)
+    (λ c κs. search needs)
+    (λ c. search needs)
+    returns-3
+    (λ c κs. search needs)
+    (λ c. sorted-long c)
+    (λ c. sym (length-take-le (c .before .handed-in .result) (c .before .before .before .before .before .before .before .select .last .1 .1 .1 .1 .0) (sorted-long (c .before))))
+    ranked-requires
+    (λ c. c .before .before .before .before .before .before .before .before .before .before .before .before .before .before .before .before .before .before .before .before .before .before .before .before .before .before .before .before .before .select .kept .1 .1 .1 .1 .0)
+    (λ c. search needs)
+    (λ c. search needs)
+    (λ c. search needs)
+    (λ c. search needs)
+    (λ c. search needs)
+    (λ c. search needs)
+    (λ c. search needs)
+    returns-4)

@@ -1,0 +1,2 @@
+-- The query as a search keeps it.
+pub mod Query
