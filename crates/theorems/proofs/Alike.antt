@@ -3,7 +3,9 @@ use mathlib.Core.Path.{_≡_, sym, ap, _∙_}
 use mathlib.Core.List.{List}
 use Prim.Native.Nat.{ℕ, _<_}
 use lib.IntN.{ℤ}
+use lib.ListN.{length, getD}
 use lib.Ieee.{Float}
+use Rattle.float.specs.Values.{zero}
 use Rattle.rank.specs.Sort.{_∈_, least}
 use Rattle.rank.specs.Order.{byDistance}
 use Rattle.rank.proofs.Agree.{least-agree}
@@ -17,10 +19,10 @@ use Rattle.search_spec.specs.Lent.{Rows, Call}
 use Rattle.search_spec.specs.Tests.{frontNumber}
 use Rattle.search_spec.specs.Lists.{isEligible, eligibleRows, encoded, approximateAt, byApproximate, byOriginal, candidateRows, listedRows}
 use Rattle.search_spec.specs.Scan.{rowRefusal, rowsRefusal, scanRefusal}
-use Rattle.search_spec.specs.Outcome.{measuredRows, reportOf, listOf, agreementOf, lateRefusal, outcomeBy, searched, agreed}
+use Rattle.search_spec.specs.Outcome.{Outcome, measuredRows, reportOf, listOf, agreementOf, lateRefusal, outcomeBy, searched, agreed}
 use Rattle.search_spec.specs.Kept.{cachedRows, residentRows, cached, resident, agreementCached, agreementResident}
 use Rattle.search_spec.proofs.Keys.{in-library}
-use Rattle.theorems.specs.Words.{LeftByPreparing, Opens, LeftByBuilding}
+use Rattle.theorems.specs.Words.{Alike, LeftByPreparing, Opens, LeftByBuilding}
 use Rattle.theorems.proofs.Own.{cached-head, cached-own, built-head, built-own}
 
 -- ---- rows that agree as far as the library goes
@@ -54,7 +56,7 @@ module _ (head : Head) (v w : Rows) (c : Call) (a : Agree (rowsOf (c .manifest))
       least-agree (byApproximate (c .manifest) (w .at) (encoded (w .encoding) (c .query))) (byApproximate (c .manifest) (v .at) (encoded (v .encoding) (c .query))) (c .limit) (eligibleRows c)
       (λ x y i j. rw (approximate-agrees x i, approximate-agrees y j))
 
-  listed-agree : listedRows v c ≡ listedRows w c
+  pub listed-agree : listedRows v c ≡ listedRows w c
   unfolding listedRows
   listed-agree = ap (least (byOriginal (c .manifest) (c .segments) (c .query)) (c .k)) candidates-agree
 
@@ -75,10 +77,26 @@ module _ (head : Head) (v w : Rows) (c : Call) (a : Agree (rowsOf (c .manifest))
   agreed-agree = outcome-agrees (frontNumber head c) (eligibleRows c)
 
 -- ---- (4)
+same-alike : {o p : Outcome} → o ≡ p → Alike o p
+same-alike e =
+    record {
+      refusal = ap (λ (x : Outcome). x .refusal) e;
+      report = ap (λ (x : Outcome). x .report) e;
+      list = ap (λ (x : Outcome). x .list) e;
+      agreement = ap (λ (x : Outcome). x .agreement) e;
+      ids = ap (λ (x : Outcome). x .answers .ids) e;
+      distances = ap (λ (x : Outcome). length (x .answers .distances)) e;
+      bits = λ i. let d = ap (λ (x : Outcome). getD (x .answers .distances) i zero) e in rw d;
+      rows = ap (λ (x : Outcome). x .answers .rows) e;
+      starts = ap (λ (x : Outcome). x .answers .starts) e;
+      lengths = ap (λ (x : Outcome). x .answers .lengths) e;
+      work = ap (λ (x : Outcome). x .work) e;
+    }
+
 pub alike : (c : Call) (state : CacheState) (cache : List ℕ) (built : ResidentState) (codes : List ℤ) (scales : List Float) (norms : List ℤ)
     → LeftByPreparing (c .manifest) (c .segments) cache → Opens (c .manifest) cache state
     → LeftByBuilding (c .manifest) (c .segments) built codes scales norms
-    → (cached state cache c ≡ resident built codes scales norms c) × (agreementCached state cache c ≡ agreementResident built codes scales norms c)
+    → Alike (cached state cache c) (resident built codes scales norms c) × Alike (agreementCached state cache c) (agreementResident built codes scales norms c)
 alike c state cache built codes scales norms p o b =
     let m = c .manifest in
     let s = c .segments in
@@ -88,6 +106,6 @@ alike c state cache built codes scales norms p o b =
     let y = built-own m s built codes scales norms b in
     let h : state .head ≡ built .head = cached-head m s cache state p o ∙ sym (built-head m s built codes scales norms b) in
     let a : Agree (rowsOf m) v w = record { encoding = x .encoding ∙ sym (y .encoding); lengthOk = x .lengthOk ∙ sym (y .lengthOk); at = λ r l. x .at r l ∙ sym (y .at r l) } in (
-      ap (λ (g : Head). searched g v c) h ∙ searched-agree (built .head) v w c a,
-      ap (λ (g : Head). agreed g v c) h ∙ agreed-agree (built .head) v w c a,
+      same-alike (ap (λ (g : Head). searched g v c) h ∙ searched-agree (built .head) v w c a),
+      same-alike (ap (λ (g : Head). agreed g v c) h ∙ agreed-agree (built .head) v w c a),
     )

@@ -1,34 +1,42 @@
 -- A library that is accepted, with the CRC-32s of its bytes; its prepared cache, opened, and its built slices; and calls that share all but their
 -- limits. Assumes nothing.
-use mathlib.Core.Path.{_≡_, refl, sym, ap}
-use mathlib.Core.Bool.{true, false}
+use mathlib.Core.Path.{_≡_, refl, sym, ap, _∙_}
+use mathlib.Core.Bool.{Bool, true, false}
+use mathlib.Core.Logic.{inl}
 use mathlib.Core.List.{List, [], _∷_, _++_}
 use Prim.Native.Nat.{ℕ, _≤_}
 use native.Mathlib.Omega.{arith}
 use lib.Dec.{ltb}
-use lib.IntN.{ℤ, pos, negsuc}
+use lib.IntN.{ℤ, pos}
 use lib.ListN.{take, replicate}
-use lib.Ieee.{fin, fits, ofBits, eq}
+use lib.Ieee.{fin, fits, ofBits, ofInt, add, sub, mul, div, neg, lt, le, eq, isNan}
 use borrow.Author.Tests.{ltb-true}
 use Rattle.le.specs.Le.{le as number, bytes}
 use Rattle.le.proofs.LeLaws.{AllBytes}
 use Rattle.utf8.specs.Grammar.{span}
 use Rattle.utf8.specs.Utf8.{valid}
 use Rattle.crc32.specs.Crc.{step, steps, update, crc32, endsInCrc}
-use Rattle.float.specs.Values.{one}
-use Rattle.rank.specs.Sort.{insert, sort}
+use Rattle.float.specs.Values.{zero, one}
+use Rattle.float.specs.Hold.{maxZero}
+use Rattle.float.specs.Order.{totalBelow}
+use Rattle.rank.specs.Sort.{insert, sort, least}
 use Rattle.rank.specs.Rows.{passing}
-use Rattle.rank.specs.Limit.{byKey}
+use Rattle.rank.specs.Order.{byDistance}
+use Rattle.rank.specs.Limit.{byKey, exact}
 use Rattle.config.specs.Metric.{metricOf}
 use Rattle.config.specs.Space.{validConfig, validSpace}
 use Rattle.config.specs.Vector.{all, validVector, patternsAt}
 use Rattle.config.specs.declared.Refusal.{Refusal}
-use Rattle.quantization.specs.Encoder.{baseLevels, midpoints}
+use Rattle.codes.specs.Codes.{dot, squares}
+use Rattle.quantization.specs.Encoder.{largestFrom, scaleBy, notAbove, codeOf, encode, midpointsOf, baseLevels, midpoints}
+use Rattle.math.specs.Sums.{fold2}
+use Rattle.math.specs.Distance.{finished, original}
+use Rattle.row.specs.Distance.{squaredL2, distanceOf, approximate}
 use Rattle.format.specs.Order.{firstFrom, firstRefusal}
 use Rattle.format.specs.Fields.{magic, generationOf, sequenceOf, dimensionsOf, mOf, efOf, seedOf, metricByte, metricAt, modelLength, modelOf, segmentsOf, rowsOf, tableAt, entriesAt, lengthOf, crcOf, idAt, segmentAt, offsetAt, metadataAt, recordLength, storedCrc}
 use Rattle.format.specs.Head.{opensOk, kindOk, identityOk, countsOk, headNumber, lengthsOk}
-use Rattle.format.specs.Plan.{rises, entryOk, rowsOk, crcOk, planNumber}
 use Rattle.format.proofs.Heads.{both}
+use Rattle.entries.specs.Plan.{rises, entryOk, rowsOk, crcOk, planNumber}
 use Rattle.geometry.specs.Sizing.{defaultOptions, sizingNumber}
 use Rattle.manifest.specs.Tiling.{position, physical, inSegment, follow, covers, tiled}
 use Rattle.manifest.specs.Check.{manifestNumber}
@@ -37,15 +45,24 @@ use Rattle.segment.specs.Check.{segmentCrcOk, rowsRefusal, segmentsRefusal, lib
 use Rattle.quantized_cache.specs.Size.{sizeOf, sizingOf}
 use Rattle.quantized_cache.specs.Open.{stateOf}
 use Rattle.quantized_cache.specs.declared.Opened.{Opened}
+use Rattle.quantized_cache.specs.declared.State.{State as CacheState}
 use Rattle.prepare.specs.Prepare.{prepareRefusal, cacheAfter}
 use Rattle.prepare.proofs.Opened.{prepared-opened}
 use Rattle.prepare.proofs.Accepted.{accepted-prepared}
 use Rattle.resident.specs.Build.{roomNumber, buildRefusal, builtBy, codesAfter, scalesAfter, normsAfter}
 use Rattle.resident.proofs.Theorems.{accepted-built}
-use Rattle.search_spec.specs.Lent.{Call, every, wants, callOf, answersOf, workOf}
-use Rattle.search_spec.specs.Lists.{isEligible, eligible, eligibleRows}
-use Rattle.theorems.specs.Words.{Accepted, LeftByPreparing, Opens, LeftByBuilding, Answerable}
+use Rattle.rows.specs.Rows.{rowOf}
+use Rattle.search_spec.specs.Lent.{Rows, Call, base, every, wants, callOf, answersOf, workOf}
+use Rattle.search_spec.specs.Lists.{isEligible, eligible, eligibleRows, encoded, approximateAt, originalAt, byOriginal, candidateRows, listedRows}
+use Rattle.search_spec.specs.Outcome.{Succeeds, shownRows}
+use Rattle.search_spec.specs.Kept.{cachedRows, cached}
+use Rattle.search_spec.proofs.Passed.{rows-shown}
+use Rattle.theorems.specs.Words.{TrueNearest, Accepted, LeftByPreparing, Opens, LeftByBuilding, Answerable}
 use Rattle.theorems.specs.Demand.{Exhibit}
+use Rattle.theorems.proofs.Own.{cached-own}
+use Rattle.theorems.proofs.Improves.{near, limits, nearest-least, rows-pass}
+use Rattle.theorems.proofs.Alike.{listed-agree, alike}
+use Rattle.theorems.proofs.Finds.{finds-cached}
 
 -- the manifest's own, which is the one expected
 abbrev crc : ℕ
@@ -162,10 +179,10 @@ built = record {
   state-returned = refl;
 }
 
--- ---- the example's query, k 1
+-- ---- calls with the query (127, 0), k 1
 abbrev call : ℕ → Call
 call limit =
-    callOf manifest segments every (fin false 127 (pos 0) ∷ fin false 1 (negsuc 1) ∷ []) 1 limit (answersOf (9 ∷ []) (one ∷ []) (9 ∷ []) (9 ∷ []) (9 ∷ []))
+    callOf manifest segments every (fin false 127 (pos 0) ∷ zero ∷ []) 1 limit (answersOf (9 ∷ []) (one ∷ []) (9 ∷ []) (9 ∷ []) (9 ∷ []))
     (workOf (9 ∷ 9 ∷ []) (9 ∷ 9 ∷ []) [])
 
 answerable : (limit : ℕ) → 1 ≤ limit → limit ≤ 65536 → Answerable (call limit)
@@ -187,6 +204,40 @@ answerable limit low high = record {
   id-slice = omega arith;
 }
 
+-- ---- the list with limit 1
+
+-- the encoder's rows
+abbrev rows : Rows
+rows = record { encoding = base; lengthOk = true; at = rowOf baseLevels midpoints manifest segments }
+
+-- both have one approximate distance, so that row 0 is the candidate
+listed-0 : listedRows rows (call 1) ≡ 0 ∷ []
+unfolding number bytes lt le eq add sub mul neg isNan ofBits ofInt maxZero totalBelow insert sort least passing byDistance metricOf all patternsAt dot squares largestFrom scaleBy notAbove codeOf encode midpointsOf fold2 finished original squaredL2 distanceOf approximate dimensionsOf metricByte metricAt modelLength segmentsOf rowsOf tableAt entriesAt lengthOf idAt segmentAt offsetAt startOf recordAt wants isEligible eligible eligibleRows encoded approximateAt originalAt candidateRows listedRows div
+listed-0 = refl
+
+-- which is nearest too
+nearest-0 : (order : ℕ → ℕ → Bool) → exact order (byOriginal manifest segments (call 1 .query)) (eligibleRows (call 1)) 1 ≡ 0 ∷ []
+unfolding number bytes lt le eq add sub mul neg isNan ofBits totalBelow insert sort least passing byDistance metricOf fold2 finished original dimensionsOf metricByte metricAt modelLength segmentsOf rowsOf tableAt entriesAt lengthOf idAt segmentAt offsetAt startOf recordAt wants isEligible eligible eligibleRows originalAt exact patternsAt
+nearest-0 order = refl
+
+abbrev state : CacheState
+state = stateOf manifest cache
+
+succeeds : Succeeds (cached state cache (call 1))
+succeeds = ap (λ (r : Refusal). r .number) (finds-cached (call 1) state cache accepted (answerable 1 (omega arith) (omega arith)) prepared opens .0)
+
+shown-0 : shownRows (cached state cache (call 1)) ≡ 0 ∷ []
+shown-0 =
+    let o = cached-own manifest segments cache state prepared opens in
+    rows-shown (state .head) (cachedRows manifest state cache) (call 1) succeeds
+    ∙ listed-agree (state .head) (cachedRows manifest state cache) rows (call 1) (record { encoding = o .encoding; lengthOk = o .lengthOk; at = o .at })
+    ∙ listed-0
+
+nearest-are : TrueNearest (call 1) (0 ∷ [])
+nearest-are =
+    let v = cachedRows manifest state cache in
+    rw nearest-0 at (nearest-least (call 1) _ (limits (near v (call 1)) (call 1) (rows-pass (state .head) v (call 1) succeeds) .exact-are 1))
+
 pub exhibit : Exhibit
 unfolding number bytes rowsOf modelLength eligibleRows eligible passing isEligible wants
 exhibit = record {
@@ -199,7 +250,7 @@ exhibit = record {
   answers-smaller = answerable 1 (omega arith) (omega arith);
   answers-larger = answerable 2 (omega arith) (omega arith);
   cache = cache;
-  state = stateOf manifest cache;
+  state = state;
   prepared = prepared;
   opens = opens;
   codes = codesAfter baseLevels midpoints manifest segments building (integers 4);
@@ -207,4 +258,11 @@ exhibit = record {
   norms = normsAfter baseLevels midpoints manifest segments building (integers 2);
   built = builtBy manifest building 4 2 2 .state;
   left = built;
+  some = omega arith;
+  nearest = 0 ∷ [];
+  nearest-are = nearest-are;
+  stroke = 0;
+  stroke-near = inl refl;
+  stroke-cached = rw shown-0 (inl refl);
+  stroke-resident = let a = alike (call 1) state cache _ _ _ _ prepared opens built .0 in rw (← a .report, ← a .rows, shown-0) (inl refl);
 }

@@ -22,13 +22,13 @@ use Rattle.quantization.proofs.Encoded.{base, base-table}
 use Rattle.format.specs.Fields.{dimensionsOf, rowsOf, metricAt}
 use Rattle.format.specs.Head.{headNumber, headAt}
 use Rattle.format.specs.Same.{sameHead}
-use Rattle.format.specs.Plan.{entryOk, badEntry}
 use Rattle.format.specs.declared.Head.{Head}
 use Rattle.format.proofs.First.{all-pass}
 use Rattle.format.proofs.Heads.{bounds}
 use Rattle.format.proofs.Same.{fields-refl}
-use Rattle.format.proofs.Entries.{lengths-of, entry-keeps}
 use Rattle.format.proofs.Refusals.{all-none}
+use Rattle.entries.specs.Plan.{entryOk, badEntry}
+use Rattle.entries.proofs.Entries.{lengths-of, entry-keeps}
 use Rattle.segment.specs.Record.{recordAt, vectorOf}
 use Rattle.segment.proofs.Library.{Accepted as Library, library-accepted}
 use Rattle.segment.proofs.Records.{good}

@@ -19,30 +19,30 @@ use Rattle.rank.proofs.Order.{Rising, distance-order, by-distances}
 use Rattle.rank.proofs.Agree.{Agree, Least-agree}
 use Rattle.config.proofs.Refusals.{none-refused}
 use Rattle.format.specs.Fields.{rowsOf, idAt}
-use Rattle.format.specs.Plan.{rowsOk}
 use Rattle.format.specs.declared.Head.{Head}
 use Rattle.format.proofs.Same.{same-parts}
-use Rattle.format.proofs.Entries.{rows-by, ids-rise}
+use Rattle.entries.specs.Plan.{rowsOk}
+use Rattle.entries.proofs.Entries.{rows-by, ids-rise}
 use Rattle.quantized_cache.specs.declared.State.{State as CacheState}
 use Rattle.resident.specs.declared.State.{State as ResidentState}
 use Rattle.search_spec.specs.Lent.{Rows, Call}
 use Rattle.search_spec.specs.Tests.{frontNumber}
 use Rattle.search_spec.specs.Lists.{isEligible, eligible, eligibleRows, encoded, originalAt, byApproximate, byOriginal, candidateRows, listedRows}
 use Rattle.search_spec.specs.declared.Place.{Place}
-use Rattle.search_spec.specs.Outcome.{placeOf, lateRefusal, outcomeBy, searched, Succeeds}
+use Rattle.search_spec.specs.Outcome.{placeOf, reportOf, lateRefusal, outcomeBy, searched, Succeeds}
 use Rattle.search_spec.specs.Kept.{cachedRows, residentRows, cached, resident}
-use Rattle.search_spec.proofs.Passed.{low-limit, done-front, count-is, shown-is, rows-shown}
-use Rattle.search_spec.proofs.Reports.{list-count}
+use Rattle.search_spec.proofs.Passed.{low-limit, done-front, report-is, shown-is, rows-shown}
+use Rattle.search_spec.proofs.Reports.{list-count, counted}
 use Rattle.search_spec.proofs.Keys.{late, in-library}
 use Rattle.theorems.specs.Words.{Shares, notAfter, TrueNearest}
 use Rattle.theorems.specs.Demand.{Lists, Improves}
 
 -- the k least are true nearest strokes
-nearest-least : (c : Call) (l : List ℕ) → Least (byOriginal (c .manifest) (c .segments) (c .query)) (c .k) (eligibleRows c) l → TrueNearest c l
+pub nearest-least : (c : Call) (l : List ℕ) → Least (byOriginal (c .manifest) (c .segments) (c .query)) (c .k) (eligibleRows c) l → TrueNearest c l
 nearest-least c l L = record { count = L .size; strokes = L .within; once = L .distinct; others = L .others }
 
 -- the entries of a library that is searched have passed
-rows-pass : (head : Head) (rows : Rows) (c : Call) → Succeeds (searched head rows c) → rowsOk (c .manifest) ≡ true
+pub rows-pass : (head : Head) (rows : Rows) (c : Call) → Succeeds (searched head rows c) → rowsOk (c .manifest) ≡ true
 unfolding searched outcomeBy
 rows-pass head rows c h =
     let looked = candidateRows rows c in
@@ -60,7 +60,7 @@ module _ (near : ℕ → ℕ → Bool) (c : Call) (ok : rowsOk (c .manifest) ≡
   rising : Rising (idAt (c .manifest)) (eligibleRows c)
   rising r s i j l = ids-rise (c .manifest) r s ok l (in-library c s j)
 
-  limits : LimitTheorem near le (eligibleRows c)
+  pub limits : LimitTheorem near le (eligibleRows c)
   limits =
       by-distances distance (idAt (c .manifest)) near (eligibleRows c)
       (unfold eligibleRows eligible in passing-rising (isEligible (c .wanted) (c .allowed) (c .manifest)) (rowsOf (c .manifest)))
@@ -104,7 +104,7 @@ module _ (near : ℕ → ℕ → Bool) (c : Call) (ok : rowsOk (c .manifest) ≡
 -- ---- the lists of a call
 
 -- the approximate order of these rows
-abbrev near : Rows → Call → ℕ → ℕ → Bool
+abbrev pub near : Rows → Call → ℕ → ℕ → Bool
 near rows c = byApproximate (c .manifest) (rows .at) (encoded (rows .encoding) (c .query))
 
 -- the list of d, by what it shares with c
@@ -122,15 +122,23 @@ own c = record { manifest = refl; segments = refl; query = refl; k = refl; strok
 
 -- ---- one call
 pub lists : (head : Head) (rows : Rows) (c : Call) → Succeeds (searched head rows c) → Lists c (searched head rows c)
-unfolding placeOf
+unfolding placeOf reportOf
 lists head rows c h =
     let ok = rows-pass head rows c h in
     let T = limits (near rows c) c ok in
     let e = rows-shown head rows c h ∙ listed-is rows c c (own c) in
     let n : length (listedRows rows c) ≡ min (c .k) (length (eligibleRows c)) = list-count rows c (low-limit (done-front head rows c h)) in
     let L = T .listed-are (c .k) (c .limit) in
+    let R = counted head rows c h in
+    let P = report-is head rows c h in
     record {
-      count = count-is head rows c h ∙ n;
+      generation = rw P;
+      sequence = rw P;
+      eligible = R .eligible-is;
+      measured = R .measured-is;
+      complete = R .complete-is;
+      approximate = rw P;
+      count = R .count-is;
       size = ap length (rows-shown head rows c h) ∙ n;
       strokes = λ r i. T .within (c .k) (c .limit) r (rw e at i);
       once = rw e (L .distinct);

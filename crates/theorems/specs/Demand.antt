@@ -3,24 +3,33 @@
 -- resident search answer alike to the bit." Beside it, document 01, The report: "A search succeeds when no check refuses it, and then reports and
 -- lists what is defined above". The list is read from the answer slices as they stand afterwards.
 use mathlib.Core.Path.{_≡_}
-use mathlib.Core.Bool.{true}
+use mathlib.Core.Bool.{true, not, cond, _&&_}
 use mathlib.Core.List.{List}
 use Prim.Native.Nat.{ℕ, _≤_, _<_, min}
+use lib.Dec.{ltb, eqb}
 use lib.IntN.{ℤ}
 use lib.ListN.{length}
 use lib.Ieee.{Float}
 use Rattle.rank.specs.Sort.{_∈_, Distinct}
 use Rattle.config.specs.Refusal.{none}
+use Rattle.format.specs.Fields.{generationOf, sequenceOf}
 use Rattle.quantized_cache.specs.declared.State.{State as CacheState}
 use Rattle.resident.specs.declared.State.{State as ResidentState}
 use Rattle.search_spec.specs.Lent.{Call}
 use Rattle.search_spec.specs.Lists.{eligibleRows}
 use Rattle.search_spec.specs.Outcome.{Outcome, placeOf, Succeeds, shown, shownRows}
 use Rattle.search_spec.specs.Kept.{cached, resident, agreementCached, agreementResident}
-use Rattle.theorems.specs.Words.{Shares, notAfter, InOrder, TrueNearest, Accepted, LeftByPreparing, Opens, LeftByBuilding, Answerable}
+use Rattle.theorems.specs.Words.{Shares, notAfter, InOrder, TrueNearest, Alike, Accepted, LeftByPreparing, Opens, LeftByBuilding, Answerable}
 
 -- o is the outcome of a call c that succeeds
 pub record Lists (c : Call) (o : Outcome) : Type 0 where
+  -- it reports what is defined
+  pub generation : o .report .generation ≡ generationOf (c .manifest)
+  pub sequence : o .report .sequence ≡ sequenceOf (c .manifest)
+  pub eligible : o .report .eligible ≡ length (eligibleRows c)
+  pub measured : o .report .measured ≡ cond (eqb (c .k) 0) 0 (min (c .limit) (length (eligibleRows c)))
+  pub complete : o .report .complete ≡ true
+  pub approximate : o .report .approximate ≡ (not (eqb (c .k) 0) && ltb (c .limit) (length (eligibleRows c)))
   -- it lists min(k, eligible) eligible strokes, each once, in order
   pub count : o .report .count ≡ min (c .k) (length (eligibleRows c))
   pub size : length (shownRows o) ≡ min (c .k) (length (eligibleRows c))
@@ -62,6 +71,14 @@ pub record Exhibit : Type 0 where
   pub norms : List ℤ
   pub built : ResidentState
   pub left : LeftByBuilding (smaller .manifest) (smaller .segments) built codes scales norms
+  -- there are places, and a true nearest stroke that the smaller limit lists
+  pub some : 1 ≤ smaller .k
+  pub nearest : List ℕ
+  pub nearest-are : TrueNearest smaller nearest
+  pub stroke : ℕ
+  pub stroke-near : stroke ∈ nearest
+  pub stroke-cached : stroke ∈ shownRows (cached state cache smaller)
+  pub stroke-resident : stroke ∈ shownRows (resident built codes scales norms smaller)
 
 pub record Demand : Type 0 where
   -- any cache, or resident rows, lent to calls that succeed, with whatever state: nothing else is asked, as a search that succeeds has itself
@@ -75,12 +92,11 @@ pub record Demand : Type 0 where
   pub improves-resident : (c d : Call) (state other : ResidentState) (codes : List ℤ) (scales : List Float) (norms : List ℤ) → Shares c d
       → Succeeds (resident state codes scales norms c) → Succeeds (resident other codes scales norms d) → c .limit ≤ d .limit
       → Improves c (resident state codes scales norms c) (resident other codes scales norms d)
-  -- (4) cached and resident answer alike, whatever the query, k, limit, ids and slices: refusal, report, list, agreement and every lent slice, as
-  -- the same data, so distances by their bits
+  -- (4) cached and resident answer alike, whatever the query, k, limit, ids and slices; the agreement calls too
   pub alike : (c : Call) (state : CacheState) (cache : List ℕ) (built : ResidentState) (codes : List ℤ) (scales : List Float) (norms : List ℤ)
       → LeftByPreparing (c .manifest) (c .segments) cache → Opens (c .manifest) cache state
       → LeftByBuilding (c .manifest) (c .segments) built codes scales norms
-      → (cached state cache c ≡ resident built codes scales norms c) × (agreementCached state cache c ≡ agreementResident built codes scales norms c)
+      → Alike (cached state cache c) (resident built codes scales norms c) × Alike (agreementCached state cache c) (agreementResident built codes scales norms c)
   -- (5) these calls succeed
   pub finds-cached : (c : Call) (state : CacheState) (cache : List ℕ) → Accepted (c .manifest) (c .segments) → Answerable c
       → LeftByPreparing (c .manifest) (c .segments) cache → Opens (c .manifest) cache state

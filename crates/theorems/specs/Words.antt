@@ -6,9 +6,10 @@ use mathlib.Core.List.{List}
 use Prim.Native.Nat.{ℕ, _≤_, min}
 use lib.Dec.{leb}
 use lib.IntN.{ℤ}
-use lib.ListN.{length, take}
-use lib.Ieee.{Float}
+use lib.ListN.{length, getD, take}
+use lib.Ieee.{Float, binary64, toBits}
 use Rattle.float.specs.Order.{totalBelow}
+use Rattle.float.specs.Values.{zero}
 use Rattle.rank.specs.Sort.{_∈_, Distinct, Ascending}
 use Rattle.config.specs.Vector.{validVector}
 use Rattle.config.specs.declared.Refusal.{Refusal}
@@ -24,6 +25,7 @@ use Rattle.resident.specs.Build.{buildRefusal, builtBy, codesAfter, scalesAfter
 use Rattle.resident.specs.declared.State.{State as ResidentState}
 use Rattle.search_spec.specs.Lent.{Call, Singles, handed}
 use Rattle.search_spec.specs.Lists.{byOriginal, eligibleRows}
+use Rattle.search_spec.specs.Outcome.{Outcome}
 use Rattle.search_spec.specs.declared.Place.{Place}
 
 -- ---- strokes, by original distance and id
@@ -56,6 +58,25 @@ pub record TrueNearest (c : Call) (l : List ℕ) : Type 0 where
   pub strokes : (r : ℕ) → r ∈ l → r ∈ eligibleRows c
   pub once : Distinct l
   pub others : (r o : ℕ) → r ∈ l → o ∈ eligibleRows c → ¬ (o ∈ l) → LaterThan c r o
+
+-- ---- two outcomes
+
+abbrev pub SameBits : Float → Float → Type 0
+SameBits x y = toBits binary64 x ≡ toBits binary64 y
+
+-- "Alike: with all else lent the same, every returned number and answer element is the same, distances by their bits"; the working slices too
+pub record Alike (o p : Outcome) : Type 0 where
+  pub refusal : o .refusal ≡ p .refusal
+  pub report : o .report ≡ p .report
+  pub list : o .list ≡ p .list
+  pub agreement : o .agreement ≡ p .agreement
+  pub ids : o .answers .ids ≡ p .answers .ids
+  pub distances : length (o .answers .distances) ≡ length (p .answers .distances)
+  pub bits : (i : ℕ) → SameBits (getD (o .answers .distances) i zero) (getD (p .answers .distances) i zero)
+  pub rows : o .answers .rows ≡ p .answers .rows
+  pub starts : o .answers .starts ≡ p .answers .starts
+  pub lengths : o .answers .lengths ≡ p .answers .lengths
+  pub work : o .work ≡ p .work
 
 -- ---- library and rows
 
@@ -103,7 +124,7 @@ pub record LeftByBuilding (m s : List ℕ) (state : ResidentState) (codes : List
   pub norms-left : norms ≡ normsAfter baseLevels midpoints m s refusal lentNorms
   pub state-returned : state ≡ builtBy m refusal (length lentCodes) (length lentScales) (length lentNorms) .state
 
--- ---- what (5) asks of a call: "an allowed query, k ≤ 10,000, k ≤ limit ≤ 65,536, at most 1,000,000 ids and slices long enough"
+-- ---- what (5) asks of a call: an allowed query, k ≤ 10,000, k ≤ limit ≤ 65,536, at most 1,000,000 ids and slices long enough
 pub record Answerable (c : Call) : Type 0 where
   pub query : validVector (metricAt (c .manifest)) (dimensionsOf (c .manifest)) (c .query) ≡ true
   pub singles : Singles (c .query)
