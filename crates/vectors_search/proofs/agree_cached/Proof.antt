@@ -1,0 +1,37 @@
+use native.Mathlib.Omega.{arith}
+use lib.ListN.{length-take}
+use borrow.Author.Needs.{needs}
+use Rattle.vectors_search.proofs.agree_cached.Statement.{statement}
+use Rattle.vectors_search.proofs.agree_cached.Tie as tie
+
+pub agree-cached-spec : {M : Type 1} → statement M
+agree-cached-spec =
+    tie.close
+    (tie.spec
+    (λ c κs. search needs)
+    (λ c κs. search needs)
+    (λ c κs. search needs)
+    (λ c κs. search needs)
+    (λ c κs. search needs)
+    (λ c κs. search needs)
+    (λ c κs. search needs)
+    (λ c κs. search needs)
+    (λ c. search needs)
+    (λ c. simp length-take (omega arith))
+    (λ c. search needs)
+    (λ c. simp length-take (omega arith))
+    (λ c. search needs)
+    (λ c. simp length-take (omega arith))
+    (λ c. search needs)
+    (λ c. simp length-take (omega arith))
+    (λ c. search needs)
+    (λ c. simp length-take (omega arith))
+    (λ c. search needs)
+    (λ c. simp length-take (omega arith))
+    (λ c. search needs)
+    (λ c. simp length-take (omega arith))
+    (λ c κs. search needs)
+    (λ c κs. search needs)
+    (λ c κs. search needs)
+    (λ c κs. search needs)
+    (λ c. search needs))

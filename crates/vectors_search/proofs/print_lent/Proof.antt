@@ -1,0 +1,28 @@
+use native.Mathlib.Omega.{arith}
+use lib.ListN.{length-take}
+use borrow.Author.Needs.{needs}
+use Rattle.vectors_search.proofs.print_lent.Statement.{statement}
+use Rattle.vectors_search.proofs.print_lent.Tie as tie
+
+pub print-lent-spec : {M : Type 1} → statement M
+print-lent-spec =
+    tie.close
+    (tie.spec
+    (λ c κs. search needs)
+    (λ c κs. search needs)
+    (λ c κs. search needs)
+    (λ c κs. search needs)
+    (λ c κs. search needs)
+    (λ c κs. search needs)
+    (λ c κs. search needs)
+    (λ c κs. search needs)
+    (λ c. simp length-take (omega arith))
+    (λ c. simp length-take (omega arith))
+    (λ c. simp length-take (omega arith))
+    (λ c. simp length-take (omega arith))
+    (λ c. simp length-take (omega arith))
+    (λ c. simp length-take (omega arith))
+    (λ c. simp length-take (omega arith))
+    (λ c. simp length-take (omega arith))
+    (λ c κs. search needs)
+    (λ c. search needs))
