@@ -1,4 +1,4 @@
-//! Random data, and ratios of times, for this program, bench/library and bench/cache; each uses a part.
+//! Random data, and ratios of times, for this program, bench/library, bench/cache and bench/search; each uses a part.
 #![allow(dead_code)]
 use std::time::Instant;
 
@@ -32,13 +32,34 @@ pub struct Times {
     pub theirs: f64,
 }
 
-pub fn times(runs: usize, calls: u32, mut ours: impl FnMut(), mut theirs: impl FnMut()) -> Times {
+pub fn times(runs: usize, calls: u32, ours: impl FnMut(), theirs: impl FnMut()) -> Times {
+    let start = Instant::now();
+    times_by(|| start.elapsed().as_nanos() as f64, runs, calls, ours, theirs)
+}
+
+/// The same of the thread's processor time, which other programs disturb less. It counts what the kernel does for the thread, such as copying
+/// a file's pages, and no waiting.
+pub fn processor_times(runs: usize, calls: u32, ours: impl FnMut(), theirs: impl FnMut()) -> Times {
+    times_by(processor_time, runs, calls, ours, theirs)
+}
+
+/// Nanoseconds of the thread's processor time (Linux, CLOCK_THREAD_CPUTIME_ID).
+fn processor_time() -> f64 {
+    extern "C" {
+        fn clock_gettime(clock: i32, time: *mut [i64; 2]) -> i32;
+    }
+    let mut time = [0; 2];
+    assert_eq!(unsafe { clock_gettime(3, &mut time) }, 0);
+    time[0] as f64 * 1e9 + time[1] as f64
+}
+
+fn times_by(clock: impl Fn() -> f64, runs: usize, calls: u32, mut ours: impl FnMut(), mut theirs: impl FnMut()) -> Times {
     let timed = |f: &mut dyn FnMut()| {
-        let start = Instant::now();
+        let start = clock();
         for _ in 0..calls {
             f();
         }
-        start.elapsed().as_nanos() as f64 / f64::from(calls)
+        (clock() - start) / f64::from(calls)
     };
     timed(&mut ours);
     timed(&mut theirs);

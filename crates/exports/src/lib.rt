@@ -1,12 +1,12 @@
 // Functions for the benchmarks, callable from Rust: each is another crate's, under that one's contract.
 ghost use mathlib.Core.Path.{_≡_};
 ghost use mathlib.Core.Bool.{true, cond};
-ghost use mathlib.Core.List.{List, _++_};
+ghost use mathlib.Core.List.{List, [], _++_};
 ghost use lib.Ieee.{Float};
 ghost use Prim.Native.Nat.{ℕ, _+_, _-_, _*_, _≤_};
 ghost use lib.ListN.{length, getD, drop};
 ghost use Rattle.crc32.specs.Crc.{crc32 as checksum};
-ghost use Rattle.float.specs.SquareRoot.{sqrtOf};
+ghost use Rattle.root.specs.SquareRoot.{sqrtOf};
 ghost use Rattle.config.specs.Vector.{finites, floatsAt};
 ghost use Rattle.config.specs.declared.Metric.the-variants as M;
 ghost use Rattle.codes.specs.Codes.{codes, part, dot, squares, within, Small};
@@ -20,8 +20,13 @@ ghost use Rattle.quantized_cache.specs.Size.{sizeOf};
 ghost use Rattle.quantized_cache.specs.Open.{opened};
 ghost use Rattle.prepare.specs.Prepare.{prepareRefusal, cacheAfter, preparedBy};
 ghost use Rattle.resident.specs.Build.{buildRefusal, codesAfter, scalesAfter, normsAfter};
+ghost use Rattle.search_spec.specs.Lent.{answersOf, workOf, callOf, every, only};
+ghost use Rattle.search_spec.specs.Outcome.{returned};
+ghost use Rattle.search_spec.specs.Kept.{cached as cachedOutcome, resident as residentOutcome};
+ghost use Rattle.exports.specs.Search.{cacheState, residentState, numbersOf};
 use config::Metric;
 use geometry::Options;
+use search_spec::Searched;
 
 // ---- CRC-32 and the square root.
 
@@ -46,7 +51,7 @@ pub extern "C" fn pv_crc32(s: &[u8]) -> u32
 pub extern "C" fn pv_sqrt(x: f64) -> f64
     ensures { λ r. ⌜ r ≡ sqrtOf x ⌝ }
 {
-    float::sqrt(x)
+    root::sqrt(x)
 }
 
 // ---- Sums over codes. The caller lends room for two numbers: the sum of the squared codes, and 1 where every code is within baseLevels.
@@ -369,5 +374,240 @@ pub extern "C" fn pv_build(
     );
     let refusal = built.refusal;
     *place = refusal.place;
+    refusal.number
+}
+
+// ---- Searches over a cache and over resident rows, of all ids or of those handed in. The refusal's number; its place and the report go into the room that the
+// caller lends.
+
+// The state that opening returns, made anew in each call: a head read once more.
+fn cache_state(m: &[u8], cache: &[u8]) -> quantized_cache::State
+    ensures { λ r. ⌜ r ≡ cacheState (now (m .entry)) (now (cache .entry)) ⌝ }
+{
+    if format::head_number(m) == 0 {
+        return quantized_cache::State {
+            head: format::read_head(m),
+            cache: cache.len(),
+        };
+    }
+    quantized_cache::State {
+        head: format::zero_head(),
+        cache: 0,
+    }
+}
+
+fn numbers(s: Searched) -> [u64; 8]
+    ensures { λ r. ⌜ r ≡ numbersOf s ⌝ }
+{
+    let refusal = s.refusal;
+    let r = s.report;
+    [
+        refusal.place,
+        r.generation,
+        r.sequence,
+        r.eligible as u64,
+        r.measured as u64,
+        r.complete as u64,
+        r.approximate as u64,
+        r.count as u64,
+    ]
+}
+
+#[no_mangle]
+pub extern "C" fn pv_search_cached(
+    manifest: &[u8],
+    segments: &[u8],
+    cache: &[u8],
+    query: &[f32],
+    k: usize,
+    limit: usize,
+    keys: &mut [u64],
+    candidates: &mut [u64],
+    ids: &mut [u64],
+    distances: &mut [f64],
+    rows: &mut [u64],
+    starts: &mut [u64],
+    lengths: &mut [u32],
+    out: &mut [u64; 8],
+) -> u32
+    ensures { λ r. ⌜ (let c = callOf (now (manifest .entry)) (now (segments .entry)) every (now (query .entry)) k limit (answersOf (now (ids .entry)) (now (distances .entry)) (now (rows .entry)) (now (starts .entry)) (now (lengths .entry))) (workOf (now (keys .entry)) (now (candidates .entry)) []) in let o = cachedOutcome (cacheState (now (manifest .entry)) (now (cache .entry))) (now (cache .entry)) c in (r ≡ returned o .refusal .number) × (now (out .exit) ≡ numbersOf (returned o)) × (answersOf (now (ids .exit)) (now (distances .exit)) (now (rows .exit)) (now (starts .exit)) (now (lengths .exit)) ≡ o .answers) × (workOf (now (keys .exit)) (now (candidates .exit)) [] ≡ o .work)) ⌝ }
+{
+    let state = cache_state(manifest, cache);
+    let searched = search::cached(
+        state,
+        manifest,
+        segments,
+        cache,
+        query,
+        k,
+        limit,
+        keys,
+        candidates,
+        ids,
+        distances,
+        rows,
+        starts,
+        lengths,
+    );
+    *out = numbers(searched);
+    let refusal = searched.refusal;
+    refusal.number
+}
+
+#[no_mangle]
+pub extern "C" fn pv_search_cached_ids(
+    manifest: &[u8],
+    segments: &[u8],
+    cache: &[u8],
+    wanted: &[u64],
+    id_work: &mut [u64],
+    query: &[f32],
+    k: usize,
+    limit: usize,
+    keys: &mut [u64],
+    candidates: &mut [u64],
+    ids: &mut [u64],
+    distances: &mut [f64],
+    rows: &mut [u64],
+    starts: &mut [u64],
+    lengths: &mut [u32],
+    out: &mut [u64; 8],
+) -> u32
+    ensures { λ r. ⌜ (let c = callOf (now (manifest .entry)) (now (segments .entry)) (only (now (wanted .entry))) (now (query .entry)) k limit (answersOf (now (ids .entry)) (now (distances .entry)) (now (rows .entry)) (now (starts .entry)) (now (lengths .entry))) (workOf (now (keys .entry)) (now (candidates .entry)) (now («id_work» .entry))) in let o = cachedOutcome (cacheState (now (manifest .entry)) (now (cache .entry))) (now (cache .entry)) c in (r ≡ returned o .refusal .number) × (now (out .exit) ≡ numbersOf (returned o)) × (answersOf (now (ids .exit)) (now (distances .exit)) (now (rows .exit)) (now (starts .exit)) (now (lengths .exit)) ≡ o .answers) × (workOf (now (keys .exit)) (now (candidates .exit)) (now («id_work» .exit)) ≡ o .work)) ⌝ }
+{
+    let state = cache_state(manifest, cache);
+    let searched = search::cached_ids(
+        state,
+        manifest,
+        segments,
+        cache,
+        wanted,
+        id_work,
+        query,
+        k,
+        limit,
+        keys,
+        candidates,
+        ids,
+        distances,
+        rows,
+        starts,
+        lengths,
+    );
+    *out = numbers(searched);
+    let refusal = searched.refusal;
+    refusal.number
+}
+
+fn resident_state(m: &[u8], codes: &[i8], scales: &[f64], norms: &[i64]) -> resident::State
+    ensures { λ r. ⌜ r ≡ residentState (now (m .entry)) (length (now (codes .entry))) (length (now (scales .entry))) (length (now (norms .entry))) ⌝ }
+{
+    if format::head_number(m) == 0 {
+        return resident::State {
+            head: format::read_head(m),
+            codes: codes.len(),
+            scales: scales.len(),
+            norms: norms.len(),
+        };
+    }
+    resident::State {
+        head: format::zero_head(),
+        codes: 0,
+        scales: 0,
+        norms: 0,
+    }
+}
+
+#[no_mangle]
+pub extern "C" fn pv_search_resident(
+    manifest: &[u8],
+    segments: &[u8],
+    codes: &[i8],
+    scales: &[f64],
+    norms: &[i64],
+    query: &[f32],
+    k: usize,
+    limit: usize,
+    keys: &mut [u64],
+    candidates: &mut [u64],
+    ids: &mut [u64],
+    distances: &mut [f64],
+    rows: &mut [u64],
+    starts: &mut [u64],
+    lengths: &mut [u32],
+    out: &mut [u64; 8],
+) -> u32
+    ensures { λ r. ⌜ (let c = callOf (now (manifest .entry)) (now (segments .entry)) every (now (query .entry)) k limit (answersOf (now (ids .entry)) (now (distances .entry)) (now (rows .entry)) (now (starts .entry)) (now (lengths .entry))) (workOf (now (keys .entry)) (now (candidates .entry)) []) in let o = residentOutcome (residentState (now (manifest .entry)) (length (now (codes .entry))) (length (now (scales .entry))) (length (now (norms .entry)))) (now (codes .entry)) (now (scales .entry)) (now (norms .entry)) c in (r ≡ returned o .refusal .number) × (now (out .exit) ≡ numbersOf (returned o)) × (answersOf (now (ids .exit)) (now (distances .exit)) (now (rows .exit)) (now (starts .exit)) (now (lengths .exit)) ≡ o .answers) × (workOf (now (keys .exit)) (now (candidates .exit)) [] ≡ o .work)) ⌝ }
+{
+    let state = resident_state(manifest, codes, scales, norms);
+    let searched = search::resident(
+        state,
+        manifest,
+        segments,
+        codes,
+        scales,
+        norms,
+        query,
+        k,
+        limit,
+        keys,
+        candidates,
+        ids,
+        distances,
+        rows,
+        starts,
+        lengths,
+    );
+    *out = numbers(searched);
+    let refusal = searched.refusal;
+    refusal.number
+}
+
+#[no_mangle]
+pub extern "C" fn pv_search_resident_ids(
+    manifest: &[u8],
+    segments: &[u8],
+    codes: &[i8],
+    scales: &[f64],
+    norms: &[i64],
+    wanted: &[u64],
+    id_work: &mut [u64],
+    query: &[f32],
+    k: usize,
+    limit: usize,
+    keys: &mut [u64],
+    candidates: &mut [u64],
+    ids: &mut [u64],
+    distances: &mut [f64],
+    rows: &mut [u64],
+    starts: &mut [u64],
+    lengths: &mut [u32],
+    out: &mut [u64; 8],
+) -> u32
+    ensures { λ r. ⌜ (let c = callOf (now (manifest .entry)) (now (segments .entry)) (only (now (wanted .entry))) (now (query .entry)) k limit (answersOf (now (ids .entry)) (now (distances .entry)) (now (rows .entry)) (now (starts .entry)) (now (lengths .entry))) (workOf (now (keys .entry)) (now (candidates .entry)) (now («id_work» .entry))) in let o = residentOutcome (residentState (now (manifest .entry)) (length (now (codes .entry))) (length (now (scales .entry))) (length (now (norms .entry)))) (now (codes .entry)) (now (scales .entry)) (now (norms .entry)) c in (r ≡ returned o .refusal .number) × (now (out .exit) ≡ numbersOf (returned o)) × (answersOf (now (ids .exit)) (now (distances .exit)) (now (rows .exit)) (now (starts .exit)) (now (lengths .exit)) ≡ o .answers) × (workOf (now (keys .exit)) (now (candidates .exit)) (now («id_work» .exit)) ≡ o .work)) ⌝ }
+{
+    let state = resident_state(manifest, codes, scales, norms);
+    let searched = search::resident_ids(
+        state,
+        manifest,
+        segments,
+        codes,
+        scales,
+        norms,
+        wanted,
+        id_work,
+        query,
+        k,
+        limit,
+        keys,
+        candidates,
+        ids,
+        distances,
+        rows,
+        starts,
+        lengths,
+    );
+    *out = numbers(searched);
+    let refusal = searched.refusal;
     refusal.number
 }

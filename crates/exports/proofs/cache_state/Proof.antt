@@ -1,0 +1,25 @@
+-- Assumes nothing.
+use borrow.Author.Needs.{needs}
+use mathlib.Core.Path.{sym, _∙_}
+use borrow.Author.Tests.{eq-eqb, ne-eqb}
+use Rattle.quantized_cache.specs.Open.{openedBy}
+use Rattle.exports.proofs.cache_state.Statement.{statement}
+use Rattle.exports.proofs.cache_state.Tie as tie
+
+returns : tie.Need-returns
+unfolding openedBy
+returns c =
+    let h = c .before .before .head-number in
+    rw (← (h .ensures), eq-eqb (h .result) 0 (c .before .if1 .taken), c .read-head .ensures)
+
+returns-2 : tie.Need-returns-2
+unfolding openedBy
+returns-2 c =
+    let h = c .before .before .head-number in
+    rw (← (h .ensures), ne-eqb (h .result) 0 (c .before .if1 .left), c .zero-head .ensures)
+
+pub cache-state-spec : {M : Type 1} → statement M
+cache-state-spec = tie.close (tie.spec
+    (λ c κs. search needs)
+    (λ c κs. sym (c .before .head-number .ensures) ∙ c .if1 .taken) returns
+    (λ c κs. search needs) returns-2)

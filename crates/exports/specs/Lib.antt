@@ -1,0 +1,2 @@
+-- What the exported searches are handed and answer.
+pub mod Search
