@@ -201,148 +201,58 @@ impl Lent {
     }
 }
 
+/// A call of an exported search: the slices of its rows, what is lent for ids, and what every search is lent.
+macro_rules! call {
+    ($function:ident, $library:ident, $search:ident, $lent:ident, [$($rows:ident),*], [$($ids:expr),*]) => {
+        unsafe {
+            $function(
+                $library.manifest.as_ptr(),
+                $library.manifest.len(),
+                $library.segments.as_ptr(),
+                $library.segments.len(),
+                $($library.$rows.as_ptr(), $library.$rows.len(),)*
+                $($ids,)*
+                $search.query.as_ptr(),
+                $search.query.len(),
+                $search.k,
+                $search.limit,
+                $lent.keys.as_mut_ptr(),
+                $lent.keys.len(),
+                $lent.candidates.as_mut_ptr(),
+                $lent.candidates.len(),
+                $lent.ids.as_mut_ptr(),
+                $lent.ids.len(),
+                $lent.distances.as_mut_ptr(),
+                $lent.distances.len(),
+                $lent.rows.as_mut_ptr(),
+                $lent.rows.len(),
+                $lent.starts.as_mut_ptr(),
+                $lent.starts.len(),
+                $lent.lengths.as_mut_ptr(),
+                $lent.lengths.len(),
+                &mut $lent.out,
+            )
+        }
+    };
+    ($all:ident, $of_ids:ident, $library:ident, $search:ident, $lent:ident, $rows:tt) => {
+        match $search.wanted {
+            None => call!($all, $library, $search, $lent, $rows, []),
+            Some(ids) => {
+                let work = &mut $lent.id_work;
+                call!($of_ids, $library, $search, $lent, $rows, [ids.as_ptr(), ids.len(), work.as_mut_ptr(), work.len()])
+            }
+        }
+    };
+}
+
 impl Library {
     /// The refusal's number.
     fn cached(&self, search: Search, lent: &mut Lent) -> u32 {
-        match search.wanted {
-            None => unsafe {
-                pv_search_cached(
-                    self.manifest.as_ptr(),
-                    self.manifest.len(),
-                    self.segments.as_ptr(),
-                    self.segments.len(),
-                    self.cache.as_ptr(),
-                    self.cache.len(),
-                    search.query.as_ptr(),
-                    search.query.len(),
-                    search.k,
-                    search.limit,
-                    lent.keys.as_mut_ptr(),
-                    lent.keys.len(),
-                    lent.candidates.as_mut_ptr(),
-                    lent.candidates.len(),
-                    lent.ids.as_mut_ptr(),
-                    lent.ids.len(),
-                    lent.distances.as_mut_ptr(),
-                    lent.distances.len(),
-                    lent.rows.as_mut_ptr(),
-                    lent.rows.len(),
-                    lent.starts.as_mut_ptr(),
-                    lent.starts.len(),
-                    lent.lengths.as_mut_ptr(),
-                    lent.lengths.len(),
-                    &mut lent.out,
-                )
-            },
-            Some(wanted) => unsafe {
-                pv_search_cached_ids(
-                    self.manifest.as_ptr(),
-                    self.manifest.len(),
-                    self.segments.as_ptr(),
-                    self.segments.len(),
-                    self.cache.as_ptr(),
-                    self.cache.len(),
-                    wanted.as_ptr(),
-                    wanted.len(),
-                    lent.id_work.as_mut_ptr(),
-                    lent.id_work.len(),
-                    search.query.as_ptr(),
-                    search.query.len(),
-                    search.k,
-                    search.limit,
-                    lent.keys.as_mut_ptr(),
-                    lent.keys.len(),
-                    lent.candidates.as_mut_ptr(),
-                    lent.candidates.len(),
-                    lent.ids.as_mut_ptr(),
-                    lent.ids.len(),
-                    lent.distances.as_mut_ptr(),
-                    lent.distances.len(),
-                    lent.rows.as_mut_ptr(),
-                    lent.rows.len(),
-                    lent.starts.as_mut_ptr(),
-                    lent.starts.len(),
-                    lent.lengths.as_mut_ptr(),
-                    lent.lengths.len(),
-                    &mut lent.out,
-                )
-            },
-        }
+        call!(pv_search_cached, pv_search_cached_ids, self, search, lent, [cache])
     }
 
     fn resident(&self, search: Search, lent: &mut Lent) -> u32 {
-        match search.wanted {
-            None => unsafe {
-                pv_search_resident(
-                    self.manifest.as_ptr(),
-                    self.manifest.len(),
-                    self.segments.as_ptr(),
-                    self.segments.len(),
-                    self.codes.as_ptr(),
-                    self.codes.len(),
-                    self.scales.as_ptr(),
-                    self.scales.len(),
-                    self.norms.as_ptr(),
-                    self.norms.len(),
-                    search.query.as_ptr(),
-                    search.query.len(),
-                    search.k,
-                    search.limit,
-                    lent.keys.as_mut_ptr(),
-                    lent.keys.len(),
-                    lent.candidates.as_mut_ptr(),
-                    lent.candidates.len(),
-                    lent.ids.as_mut_ptr(),
-                    lent.ids.len(),
-                    lent.distances.as_mut_ptr(),
-                    lent.distances.len(),
-                    lent.rows.as_mut_ptr(),
-                    lent.rows.len(),
-                    lent.starts.as_mut_ptr(),
-                    lent.starts.len(),
-                    lent.lengths.as_mut_ptr(),
-                    lent.lengths.len(),
-                    &mut lent.out,
-                )
-            },
-            Some(wanted) => unsafe {
-                pv_search_resident_ids(
-                    self.manifest.as_ptr(),
-                    self.manifest.len(),
-                    self.segments.as_ptr(),
-                    self.segments.len(),
-                    self.codes.as_ptr(),
-                    self.codes.len(),
-                    self.scales.as_ptr(),
-                    self.scales.len(),
-                    self.norms.as_ptr(),
-                    self.norms.len(),
-                    wanted.as_ptr(),
-                    wanted.len(),
-                    lent.id_work.as_mut_ptr(),
-                    lent.id_work.len(),
-                    search.query.as_ptr(),
-                    search.query.len(),
-                    search.k,
-                    search.limit,
-                    lent.keys.as_mut_ptr(),
-                    lent.keys.len(),
-                    lent.candidates.as_mut_ptr(),
-                    lent.candidates.len(),
-                    lent.ids.as_mut_ptr(),
-                    lent.ids.len(),
-                    lent.distances.as_mut_ptr(),
-                    lent.distances.len(),
-                    lent.rows.as_mut_ptr(),
-                    lent.rows.len(),
-                    lent.starts.as_mut_ptr(),
-                    lent.starts.len(),
-                    lent.lengths.as_mut_ptr(),
-                    lent.lengths.len(),
-                    &mut lent.out,
-                )
-            },
-        }
+        call!(pv_search_resident, pv_search_resident_ids, self, search, lent, [codes, scales, norms])
     }
 
     /// Both found the same.
