@@ -13,7 +13,7 @@ use Rattle.search_spec.specs.Lists.{eligible, eligibleRows}
 use Rattle.search_spec.specs.Outcome.{agreementOf, lateRefusal, outcomeBy, agreed, Succeeds}
 use Rattle.search_spec.proofs.Agreement.{count-rows}
 use Rattle.rerank.specs.Rerank.{keyAt}
-use Rattle.call.specs.Ends.{lookedAt, countOf}
+use Rattle.ranked.specs.Ends.{lookedAt, countOf}
 
 module _ (agree : Bool) (head : Head) (rows : Rows) (c : Call) (f : Singles (c .query)) (z : frontNumber head c ≡ 0) where
   succeeds : agree ≡ true → lateRefusal rows c (lookedAt agree rows c) .number ≡ 0 → Succeeds (agreed head rows c)

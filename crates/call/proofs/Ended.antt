@@ -1,9 +1,9 @@
--- The ends of a call, one law for each return. Assumes nothing.
+-- The ends of a call, one law for each return.
 use mathlib.Core.Path.{_≡_, sym, ap, _∙_}
 use mathlib.Core.Bool.{Bool, true, false}
 use mathlib.Core.List.{List}
 use Prim.Native.Nat.{ℕ}
-use lib.Dec.{ltb, eqb}
+use lib.Dec.{eqb}
 use lib.Ieee.{Float}
 use lib.ListN.{length}
 use borrow.Author.Tests.{eq-eqb, ne-eqb}
@@ -17,30 +17,17 @@ use Rattle.config.proofs.Refusals.{not-zero, none-fails, all-hold, one-fails}
 use Rattle.format.specs.Fields.{rowsOf}
 use Rattle.format.specs.declared.Head.{Head}
 use Rattle.entries.specs.Plan.{badEntry}
-use Rattle.search_spec.specs.declared.Report.{Report}
 use Rattle.answers.specs.declared.Answered.{Answered}
 use Rattle.search_spec.specs.Lent.{Rows, Wanted, Answers, Work, Call, Singles, everyone, workOf, callOf}
 use Rattle.search_spec.specs.Tests.{entriesRefusal, frontNumber}
 use Rattle.search_spec.specs.Lists.{isEligible, eligible, eligibleRows, candidateRows, listedRows}
 use Rattle.search_spec.specs.Scan.{scanRefusal, recordsRefusal}
 use Rattle.search_spec.specs.Outcome.{placeOf, reportOf, measuredRows, listOf, filled, cleared, lateRefusal, outcomeBy, noReport, samePlaces}
-use Rattle.answers.specs.Report.{reportBy, turnedAway, answered}
-use Rattle.call.specs.Ends.{Ends, lookedAt, restRefusal, countOf, outcomeOf}
+use Rattle.answers.specs.Report.{turnedAway, answered}
+use Rattle.ranked.specs.Ends.{Ends, lookedAt, restRefusal, countOf}
+use Rattle.call.specs.Whole.{outcomeOf}
 use Rattle.call.proofs.Counts.{counted}
 use Rattle.answers.proofs.Places.{answers-same}
-
-module _ {agree : Bool} {rows : Rows} {c : Call} where
-  -- a refusal
-  pub turned : {f : Refusal} {r : Answered} → (f .number ≡ 0 → ⊥) → r ≡ turnedAway f → Ends agree rows c f r (c .answers)
-  turned {f} n e = record { is = rw (ne-eqb (f .number) 0 n) e; leaves = rw (ne-eqb (f .number) 0 n) }
-
-  -- none
-  pub done : {f : Refusal} {p : Report} {n : ℕ} {a : Answers} → f .number ≡ 0 → p ≡ reportOf rows c → n ≡ countOf agree rows c → a ≡ filled (listOf rows c) (c .answers)
-      → Ends agree rows c f (record { refusal = f; report = p; agreement = n }) a
-  done {f} z h n g = record { is = rw (eq-eqb (f .number) 0 z, h, n); leaves = rw (eq-eqb (f .number) 0 z) g }
-
-  pub ends-as : {f g : Refusal} {r : Answered} {a : Answers} → f ≡ g → Ends agree rows c f r a → Ends agree rows c g r a
-  ends-as {r} {a} e h = rw e at h
 
 -- ---- the entries
 module _ (m : List ℕ) {e : Refusal} (h : e ≡ entriesRefusal m none) where
@@ -75,17 +62,7 @@ module _ (rows : Rows) (c : Call) (looked : List ℕ) where
     unfolding lateRefusal
     late-rest n = rw (eq-eqb (badEntry m) (rowsOf m) p, ne-eqb (c .k) 0 n)
 
--- ---- the report, and the answers with k = 0
-module _ (rows : Rows) (c : Call) {total : ℕ} (t : total ≡ length (eligibleRows c)) where
-  pub report-is : (c .k ≡ 0 → ⊥) → {measured count : ℕ} → measured ≡ length (candidateRows rows c) → count ≡ length (listedRows rows c)
-      → reportBy (c .manifest) total measured (ltb (c .limit) total) count ≡ reportOf rows c
-  unfolding reportBy reportOf measuredRows
-  report-is n e f = rw (ne-eqb (c .k) 0 n, ← t, ← e, ← f)
-
-  pub report-none : c .k ≡ 0 → reportBy (c .manifest) total 0 false 0 ≡ reportOf rows c
-  unfolding reportBy reportOf measuredRows listedRows least
-  report-none z = rw (← t, eq-eqb (c .k) 0 z, z)
-
+-- ---- the answers with k = 0
 pub none-filled : (rows : Rows) (c : Call) → c .k ≡ 0 → c .answers ≡ filled (listOf rows c) (c .answers)
 unfolding filled listOf listedRows least
 none-filled rows c z =

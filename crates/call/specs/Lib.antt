@@ -1,3 +1,2 @@
--- The rows of a call, cached or resident, and how it ends.
-pub mod Seen
-pub mod Ends
+-- The outcome of a call.
+pub mod Whole

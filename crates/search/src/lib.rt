@@ -6,7 +6,7 @@ ghost use Rattle.search_spec.specs.Lent.{answersOf, workOf, given, callOf, ever
 ghost use Rattle.search_spec.specs.Outcome.{returned, returnedCount};
 ghost use Rattle.search_spec.specs.Kept.{cachedRows, residentRows, cached as cachedOutcome, resident as residentOutcome, agreementCached, agreementResident};
 ghost use Rattle.answers.specs.Report.{answered};
-ghost use Rattle.call.specs.Ends.{outcomeOf};
+ghost use Rattle.call.specs.Whole.{outcomeOf};
 use answers::Answered;
 use call::Kept;
 use search_spec::Agreed;

@@ -4,7 +4,7 @@ use lib.Ieee.{nan, binary32, fits}
 use Rattle.config.proofs.Coordinates.{all-by}
 use Rattle.search_spec.specs.Lent.{Rows, Call, given, answersOf, workOf, callOf}
 use Rattle.search_spec.specs.Tests.{frontNumber}
-use Rattle.call.specs.Seen.{seen}
+use Rattle.kept.specs.Seen.{seen}
 use Rattle.call.proofs.Ended.{front-refused, front-passed, all-cleared}
 use Rattle.call.proofs.over.Statement.{statement}
 use Rattle.call.proofs.over.Tie as tie

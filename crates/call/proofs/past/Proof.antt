@@ -16,12 +16,13 @@ use Rattle.eligible.specs.Walk.{ordered}
 use Rattle.eligible.proofs.Walk.{front, ordered-same, ordered-rows, ordered-rises}
 use Rattle.search_spec.specs.Lent.{Rows, Call, given, handed, everyone, answersOf, workOf, callOf}
 use Rattle.search_spec.specs.Tests.{roomOf}
-use Rattle.call.specs.Seen.{seen}
-use Rattle.call.specs.Ends.{lookedAt}
+use Rattle.kept.specs.Seen.{seen}
+use Rattle.ranked.specs.Ends.{lookedAt}
 use Rattle.search_spec.specs.Lists.{eligibleRows}
 use Rattle.search_spec.proofs.Passed.{Front, front as passed-front, low-limit}
-use Rattle.call.proofs.Ended.{turned, done, ends-as, entries-pass, entries-none, late-entries, late-none, late-short, late-rest, report-none, none-filled, none-agree, same-eligible}
-use Rattle.call.proofs.Found.{fits-room, ids-room, fits-other}
+use Rattle.ranked.proofs.Ended.{turned, done, ends-as, report-none}
+use Rattle.call.proofs.Ended.{entries-pass, entries-none, late-entries, late-none, late-short, late-rest, none-filled, none-agree, same-eligible}
+use Rattle.ranked.proofs.Found.{fits-room, ids-room, fits-other}
 use Rattle.call.proofs.past.Statement.{statement}
 use Rattle.call.proofs.past.Tie as tie
 

@@ -6,7 +6,6 @@ use mathlib.Core.Logic.{⊎-elim}
 use Prim.Native.Nat.{ℕ, _≤_, _<_, min}
 use native.Mathlib.Omega.{arith}
 use lib.Dec.{leb}
-use lib.Ieee.{Float}
 use lib.ListN.{length, take, drop, length-take, length-append, length-drop}
 use lib.Seq.{take-take, take-all, take-append-le, length-take-le}
 use borrow.Author.Tests.{leb-true}
@@ -19,7 +18,6 @@ use Rattle.rank.proofs.Least.{enough, from-least}
 use Rattle.rank.proofs.Rows.{count-most, rows-below}
 use Rattle.config.proofs.Refusals.{is-done}
 use Rattle.format.specs.Fields.{rowsOf, metricAt}
-use Rattle.quantization.specs.View.{View}
 use Rattle.format.proofs.Heads.{both}
 use Rattle.segment.specs.Record.{vectorOf}
 use Rattle.search_spec.specs.declared.Room.{Room}
@@ -37,7 +35,7 @@ use Rattle.agreement.specs.Count.{allRanked}
 use Rattle.shortlist.specs.Shortlist.{ShortlistIs}
 use Rattle.shortlist.specs.declared.Shortlisted.{Shortlisted}
 use Rattle.answers.specs.Places.{placeBy, placesBy}
-use Rattle.call.specs.Ends.{Fits, restRefusal, countOf}
+use Rattle.ranked.specs.Ends.{Fits, restRefusal, countOf}
 
 -- ---- slices of min(limit, rows) elements hold the candidates of the limit
 pub record FoundIs (agree : Bool) (rows : Rows) (c : Call) (r : Shortlisted) (ks rs : List ℕ) : Type 0 where
@@ -92,10 +90,6 @@ module _ (rows : Rows) (c : Call) (w : rows .lengthOk ≡ true) where
     where
       to : {A : Type 0} (P : A → Type 0) {i j : A} → i ≡ j → P i → P j
       to P e p = rw e at p
-
-pub found-as : {agree : Bool} {k : ℕ} (levels n : ℕ) {m s : List ℕ} {q q′ : List Float} {e : ℕ → Bool} {v v′ : ℕ → View} {Q Q′ : View} {r : Shortlisted} {ks rs : List ℕ} → q ≡ q′ → v ≡ v′ → Q ≡ Q′
-    → ShortlistIs agree k levels m s q e v Q n r ks rs → ShortlistIs agree k levels m s q′ e v′ Q′ n r ks rs
-found-as levels n p u o h = rw (p, u, o) at h
 
 -- ---- the places of a list, from its keys
 places-are : (c : Call) (l : List ℕ) → placesBy (c .manifest) (map (keyAt (c .manifest) (c .segments) (c .query)) l) l ≡ map (placeOf c) l

@@ -8,14 +8,14 @@ use lib.Seq.{length-take-le}
 use Rattle.format.specs.Fields.{rowsOf}
 use Rattle.entries.proofs.Entries.{lengths-of}
 use Rattle.search_spec.specs.Lent.{Rows, Call, given, answersOf, workOf, callOf}
-use Rattle.call.specs.Seen.{seen}
+use Rattle.kept.specs.Seen.{seen}
 use Rattle.search_spec.specs.Lists.{eligibleRows}
 use Rattle.search_spec.specs.Outcome.{filled}
-use Rattle.call.proofs.Ended.{turned, done, ends-as, report-is}
-use Rattle.call.proofs.Seen.{seen-base}
-use Rattle.call.proofs.Found.{FoundIs, found-here, measured-few, count-is, shown-places, shown-below, front-length, whole-length}
-use Rattle.call.proofs.ranked.Statement.{statement}
-use Rattle.call.proofs.ranked.Tie as tie
+use Rattle.ranked.proofs.Ended.{turned, done, ends-as, report-is}
+use Rattle.kept.proofs.Seen.{seen-base}
+use Rattle.ranked.proofs.Found.{FoundIs, found-here, measured-few, count-is, shown-places, shown-below, front-length, whole-length}
+use Rattle.ranked.proofs.ranked.Statement.{statement}
+use Rattle.ranked.proofs.ranked.Tie as tie
 
 abbrev call : tie.Start → Call
 call c = let a = c .args in callOf (a .m .now) (a .segments .now) (given (a .all) (a .sorted .now)) (a .query .now) (a .k) (a .limit) (answersOf (a .ids .now) (a .distances .now) (a .rows .now) (a .places .now) (a .lengths .now)) (workOf (a .keys .now) (a .candidates .now) [])

@@ -1,7 +1,7 @@
 use mathlib.Core.Path.{_∙_}
 use Rattle.search_spec.specs.Kept.{cachedRows, residentRows}
-use Rattle.call.proofs.length_holds.Statement.{statement}
-use Rattle.call.proofs.length_holds.Tie as tie
+use Rattle.kept.proofs.length_holds.Statement.{statement}
+use Rattle.kept.proofs.length_holds.Tie as tie
 
 returns : tie.Need-returns
 unfolding residentRows

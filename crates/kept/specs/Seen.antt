@@ -6,7 +6,7 @@ use lib.IntN.{ℤ}
 use lib.Ieee.{Float}
 use Rattle.search_spec.specs.Lent.{Rows}
 use Rattle.search_spec.specs.Kept.{cachedRows, residentRows}
-use Rattle.call.specs.declared.Kept.{Kept}
+use Rattle.kept.specs.declared.Kept.{Kept}
 
 -- the slices of the other kind are not looked at
 abbrev pub seen : Kept → List ℕ → List ℕ → List ℤ → List Float → List ℤ → Rows

@@ -7,10 +7,9 @@ use lib.Seq.{length-take-le}
 use Rattle.config.proofs.Coordinates.{valid-parts}
 use Rattle.format.specs.Fields.{dimensionsOf, metricAt}
 use Rattle.rerank.specs.Rerank.{Located, Asked}
-use Rattle.call.proofs.Seen.{seen-cached, seen-resident, cache-room, resident-room}
-use Rattle.call.proofs.Found.{found-as}
-use Rattle.call.proofs.find.Statement.{statement}
-use Rattle.call.proofs.find.Tie as tie
+use Rattle.kept.proofs.Seen.{seen-cached, seen-resident, cache-room, resident-room, found-as}
+use Rattle.kept.proofs.find.Statement.{statement}
+use Rattle.kept.proofs.find.Tie as tie
 
 size : (c : tie.Start) → length (c .args .query .now) ≡ dimensionsOf (c .args .m .now)
 size c = let m = c .args .m .now in valid-parts (metricAt m) (dimensionsOf m) (c .args .query .now) (c .pre .0 .3) .0

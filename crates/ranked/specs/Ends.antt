@@ -5,13 +5,11 @@ use mathlib.Core.List.{List}
 use Prim.Native.Nat.{ℕ, _≤_}
 use Rattle.config.specs.Refusal.{thenRefusal, unlessRefused}
 use Rattle.config.specs.declared.Refusal.{Refusal}
-use Rattle.format.specs.declared.Head.{Head}
 use Rattle.search_spec.specs.declared.Room.{Room}
 use Rattle.search_spec.specs.Lent.{Rows, Answers, Call}
-use Rattle.search_spec.specs.Tests.{frontNumber}
 use Rattle.search_spec.specs.Lists.{isEligible, eligibleRows, candidateRows, listedRows}
 use Rattle.search_spec.specs.Scan.{scanRefusal, recordsRefusal}
-use Rattle.search_spec.specs.Outcome.{Outcome, noReport, reportOf, listOf, samePlaces, filled, outcomeBy}
+use Rattle.search_spec.specs.Outcome.{noReport, reportOf, listOf, samePlaces, filled}
 use Rattle.agreement.specs.Count.{allRanked}
 use Rattle.answers.specs.declared.Answered.{Answered}
 
@@ -28,10 +26,6 @@ pub record Fits (n l : ℕ) (r : Room) : Type 0 where
 -- whose records are looked at: of a search the candidates', of an agreement call all eligible rows' (readings R27)
 abbrev pub lookedAt : Bool → Rows → Call → List ℕ
 lookedAt agree rows c = cond agree (eligibleRows c) (candidateRows rows c)
-
--- all of either call
-abbrev pub outcomeOf : Bool → Head → Rows → Call → Outcome
-outcomeOf agree head rows c = outcomeBy (frontNumber head c) rows c (lookedAt agree rows c)
 
 -- past the entries, with a k that is not 0
 abbrev pub restRefusal : Bool → Rows → Call → Refusal

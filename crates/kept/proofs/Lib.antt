@@ -1,0 +1,2 @@
+-- Laws of the rows that a call sees.
+pub mod Seen

@@ -1,0 +1,2 @@
+-- The rows of a call, cached or resident.
+pub mod Seen

@@ -1,0 +1,2 @@
+-- How a call past its tests ends.
+pub mod Ends
