@@ -8,7 +8,7 @@ ghost use Rattle.search_spec.specs.Kept.{cachedRows, residentRows, cached as ca
 ghost use Rattle.answers.specs.Report.{answered};
 ghost use Rattle.call.specs.Whole.{outcomeOf};
 use answers::Answered;
-use call::Kept;
+use kept::Kept;
 use search_spec::Agreed;
 use search_spec::Searched;
 

@@ -1,8 +1,8 @@
 -- Assumes nothing.
 use borrow.Author.Needs.{needs}
-use Rattle.exports.proofs.Out.{stored}
-use Rattle.exports.proofs.pv_row_check_resident.Statement.{statement}
-use Rattle.exports.proofs.pv_row_check_resident.Tie as tie
+use Rattle.bench_exports.proofs.Out.{stored}
+use Rattle.bench_exports.proofs.pv_row_check_resident.Statement.{statement}
+use Rattle.bench_exports.proofs.pv_row_check_resident.Tie as tie
 
 pub pv-row-check-resident-spec : {M : Type 1} → statement M
 pv-row-check-resident-spec =

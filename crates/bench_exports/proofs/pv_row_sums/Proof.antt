@@ -1,9 +1,9 @@
 -- Assumes nothing.
 use borrow.Author.Needs.{needs}
 use Rattle.codes.proofs.Rows.{dot-held}
-use Rattle.exports.proofs.Out.{stored}
-use Rattle.exports.proofs.pv_row_sums.Statement.{statement}
-use Rattle.exports.proofs.pv_row_sums.Tie as tie
+use Rattle.bench_exports.proofs.Out.{stored}
+use Rattle.bench_exports.proofs.pv_row_sums.Statement.{statement}
+use Rattle.bench_exports.proofs.pv_row_sums.Tie as tie
 
 pub pv-row-sums-spec : {M : Type 1} → statement M
 pv-row-sums-spec =

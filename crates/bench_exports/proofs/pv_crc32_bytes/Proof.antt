@@ -1,7 +1,7 @@
 use borrow.Author.Needs.{needs}
 use Rattle.crc32.specs.Crc.{crc32}
-use Rattle.exports.proofs.pv_crc32_bytes.Statement.{statement}
-use Rattle.exports.proofs.pv_crc32_bytes.Tie as tie
+use Rattle.bench_exports.proofs.pv_crc32_bytes.Statement.{statement}
+use Rattle.bench_exports.proofs.pv_crc32_bytes.Tie as tie
 
 returns : tie.Need-returns
 unfolding crc32
