@@ -1,0 +1,2 @@
+-- What the list program prints, and that two refusals are not among it.
+pub mod Output
