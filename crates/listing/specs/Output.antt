@@ -1,7 +1,7 @@
 -- What the list program prints (document 01, Contracts and proved cases: it "expects the manifest's own CRC and uses the default options. It
 -- checks manifest and segments, opens, then searches all ids").
 use mathlib.Core.Path.{_≡_}
-use mathlib.Core.Bool.{false, cond}
+use mathlib.Core.Bool.{false}
 use mathlib.Core.List.{List, [], map}
 use Prim.Native.Nat.{ℕ}
 use lib.Dec.{eqb}
@@ -15,8 +15,10 @@ use Rattle.manifest.specs.Check.{checked}
 use Rattle.segment.specs.Check.{checkedLibrary}
 use Rattle.quantized_cache.specs.Open.{opened, openedBy}
 use Rattle.quantized_cache.specs.declared.Opened.{Opened}
-use Rattle.search_spec.specs.Lent.{Call, answersOf, workOf, callOf, every}
+use Rattle.search_spec.specs.Lent.{Call, Answers, Work, answersOf, workOf, callOf, every}
 use Rattle.search_spec.specs.Outcome.{Outcome}
+use Rattle.search_spec.specs.declared.Place.{Place}
+use Rattle.search_spec.specs.declared.Report.{Report}
 use Rattle.search_spec.specs.Kept.{cached}
 use Rattle.listing_text.specs.Listing.{tooLong, badInput, refusalText, listing, lineOf, mostPlaces}
 use Rattle.listing_input.specs.Files.{Files, inputOf}
@@ -32,11 +34,18 @@ admitted m s cache platform root =
     (thenRefusal (checked m crc mostPlaces .refusal)
     (thenRefusal (checkedLibrary m crc mostPlaces s .refusal) (opened m crc mostPlaces cache platform root defaultOptions .refusal)))
 
--- the search of all ids; each slice lent to it has as many elements as a library of such files has rows at most
+-- each slice lent to the search has as many elements as a library of such files has rows at most
+unfoldable pub lentAnswers : Answers
+lentAnswers =
+    let zeros : List ℕ = replicate mostPlaces 0 in
+    answersOf zeros (replicate mostPlaces zero) zeros zeros zeros
+
+unfoldable pub lentWork : Work
+lentWork = workOf (replicate mostPlaces 0) (replicate mostPlaces 0) []
+
+-- the search of all ids
 unfoldable pub callOn : List ℕ → List ℕ → List ℕ → List ℕ → Call
-callOn m s query call =
-    let zeros = replicate mostPlaces 0 in
-    callOf m s every (queryOf query) (kOf call) (limitOf call) (answersOf zeros (replicate mostPlaces zero) zeros zeros zeros) (workOf zeros zeros [])
+callOn m s query call = callOf m s every (queryOf query) (kOf call) (limitOf call) lentAnswers lentWork
 
 -- the admission of whole files, and the search's outcome
 unfoldable pub admission : Files → Opened
@@ -51,9 +60,13 @@ unfoldable pub refusalOf : Files → Refusal
 refusalOf f = thenRefusal (admission f .refusal) (found f .refusal)
 
 -- "A refusal prints `refused N at P`", else report and places
-unfoldable pub answer : Files → List ℕ
-answer f = unlessRefused (refusalOf f) (listing (found f .report) (map lineOf (found f .list))) (refusalText (refusalOf f))
+unfoldable pub answerText : Refusal → Report → List Place → List ℕ
+answerText refusal report list = unlessRefused refusal (listing report (map lineOf list)) (refusalText refusal)
 
+unfoldable pub answer : Files → List ℕ
+answer f = answerText (refusalOf f) (found f .report) (found f .list)
+
+-- "`too long` alone", "`bad input` alone", or what the whole files give
 abbrev pub textOf : Input → List ℕ → List ℕ
 textOf TooLong whole = tooLong
 textOf BadInput whole = badInput
