@@ -2,7 +2,7 @@
 -- limits. Assumes nothing.
 use mathlib.Core.Path.{_≡_, refl, sym, ap, _∙_}
 use mathlib.Core.Bool.{Bool, true, false}
-use mathlib.Core.Logic.{inl}
+use mathlib.Core.Logic.{inl, inr}
 use mathlib.Core.List.{List, [], _∷_, _++_}
 use Prim.Native.Nat.{ℕ, _≤_}
 use native.Mathlib.Omega.{arith}
@@ -12,7 +12,6 @@ use lib.ListN.{take, replicate}
 use lib.Ieee.{fin, fits, ofBits, ofInt, add, sub, mul, div, neg, lt, le, eq, isNan}
 use borrow.Author.Tests.{ltb-true}
 use Rattle.le.specs.Le.{le as number, bytes}
-use Rattle.le.proofs.LeLaws.{AllBytes}
 use Rattle.utf8.specs.Grammar.{span}
 use Rattle.utf8.specs.Utf8.{valid}
 use Rattle.crc32.specs.Crc.{step, steps, update, crc32, endsInCrc}
@@ -47,7 +46,6 @@ use Rattle.quantized_cache.specs.Open.{stateOf}
 use Rattle.quantized_cache.specs.declared.Opened.{Opened}
 use Rattle.quantized_cache.specs.declared.State.{State as CacheState}
 use Rattle.prepare.specs.Prepare.{prepareRefusal, cacheAfter}
-use Rattle.prepare.proofs.Opened.{prepared-opened}
 use Rattle.prepare.proofs.Accepted.{accepted-prepared}
 use Rattle.resident.specs.Build.{roomNumber, buildRefusal, builtBy, codesAfter, scalesAfter, normsAfter}
 use Rattle.resident.proofs.Theorems.{accepted-built}
@@ -57,9 +55,10 @@ use Rattle.search_spec.specs.Lists.{isEligible, eligible, eligibleRows, encoded
 use Rattle.search_spec.specs.Outcome.{Succeeds, shownRows}
 use Rattle.search_spec.specs.Kept.{cachedRows, cached}
 use Rattle.search_spec.proofs.Passed.{rows-shown}
-use Rattle.theorems.specs.Words.{TrueNearest, Accepted, LeftByPreparing, Opens, LeftByBuilding, Answerable}
+use Rattle.theorems.specs.Words.{TrueNearest, Bytes, Accepted, LeftByPreparing, Opens, LeftByBuilding, Answerable}
 use Rattle.theorems.specs.Demand.{Exhibit}
 use Rattle.theorems.proofs.Own.{cached-own}
+use Rattle.theorems.proofs.Library.{prepared-opens}
 use Rattle.theorems.proofs.Improves.{near, limits, nearest-least, rows-pass}
 use Rattle.theorems.proofs.Alike.{listed-agree, alike}
 use Rattle.theorems.proofs.Finds.{finds-cached}
@@ -92,12 +91,13 @@ accepted = record { expected = crc; scratch = 2; passes = passes }
 
 -- ---- its cache and its slices, of whatever was lent
 
-bytes-held : (s : List ℕ) → all (λ x. ltb x 256) s ≡ true → AllBytes s
+bytes-held : (s : List ℕ) → all (λ x. ltb x 256) s ≡ true → Bytes s
 unfolding all
-bytes-held [] h = tt
-bytes-held (x ∷ s) h = let p = both {a = ltb x 256} h in (ltb-true x 256 (p .0), bytes-held s (p .1))
+bytes-held [] h b i = absurd i
+bytes-held (x ∷ s) h b (inl e) = rw e (ltb-true x 256 (both {a = ltb x 256} h .0))
+bytes-held (x ∷ s) h b (inr i) = bytes-held s (both {a = ltb x 256} h .1) b i
 
-manifest-bytes : AllBytes manifest
+manifest-bytes : Bytes manifest
 unfolding all bytes
 manifest-bytes = bytes-held manifest refl
 
@@ -138,16 +138,23 @@ prepared = record {
   left = refl;
 }
 
+platform-bytes : Bytes (prepared .platform)
+unfolding prepared all
+platform-bytes = bytes-held platform refl
+
+root-bytes : Bytes (prepared .root)
+unfolding prepared all
+root-bytes = bytes-held root refl
+
 opens : Opens manifest cache (stateOf manifest cache)
-unfolding all
 opens =
-    let e = prepared-opened manifest crc 2 segments platform root defaultOptions 400 prepares manifest-bytes (bytes-held platform refl) (bytes-held root refl) 2 two-rows lent .0 in
+    let e = prepared-opens manifest segments cache prepared manifest-bytes platform-bytes root-bytes 2 two-rows in
     record {
-      expected = crc;
+      expected = prepared .expected;
       scratch = 2;
-      platform = platform;
-      root = root;
-      options = defaultOptions;
+      platform = prepared .platform;
+      root = prepared .root;
+      options = prepared .options;
       passes = ap (λ (x : Opened). x .refusal .number) e;
       returned = sym (ap (λ (x : Opened). x .state) e);
     }
@@ -252,6 +259,9 @@ exhibit = record {
   cache = cache;
   state = state;
   prepared = prepared;
+  manifest-bytes = manifest-bytes;
+  platform-bytes = platform-bytes;
+  root-bytes = root-bytes;
   opens = opens;
   codes = codesAfter baseLevels midpoints manifest segments building (integers 4);
   scales = scalesAfter baseLevels midpoints manifest segments building (one ∷ one ∷ []);

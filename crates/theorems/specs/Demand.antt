@@ -19,7 +19,7 @@ use Rattle.search_spec.specs.Lent.{Call}
 use Rattle.search_spec.specs.Lists.{eligibleRows}
 use Rattle.search_spec.specs.Outcome.{Outcome, placeOf, Succeeds, shown, shownRows}
 use Rattle.search_spec.specs.Kept.{cached, resident, agreementCached, agreementResident}
-use Rattle.theorems.specs.Words.{Shares, notAfter, InOrder, TrueNearest, Alike, Accepted, LeftByPreparing, Opens, LeftByBuilding, Answerable}
+use Rattle.theorems.specs.Words.{Shares, notAfter, InOrder, TrueNearest, Alike, Bytes, Accepted, LeftByPreparing, Opens, LeftByBuilding, Answerable}
 
 -- o is the outcome of a call c that succeeds
 pub record Lists (c : Call) (o : Outcome) : Type 0 where
@@ -51,7 +51,7 @@ pub record Improves (c : Call) (o p : Outcome) : Type 0 where
   -- (2) it lists every true nearest stroke that the smaller lists
   pub keeps : (l : List ℕ) → TrueNearest c l → (r : ℕ) → r ∈ l → r ∈ shownRows o → r ∈ shownRows p
 
--- A library, a cache and resident rows, and two calls, that are as (1) to (5) ask: by (5) the calls succeed, with the smaller limit below the
+-- A library, a cache and resident rows, and two calls, that are as demand 2 and (1) to (5) ask: by (5) the calls succeed, with the smaller limit below the
 -- eligible count, and the larger not.
 pub record Exhibit : Type 0 where
   pub smaller : Call
@@ -65,6 +65,9 @@ pub record Exhibit : Type 0 where
   pub cache : List ℕ
   pub state : CacheState
   pub prepared : LeftByPreparing (smaller .manifest) (smaller .segments) cache
+  pub manifest-bytes : Bytes (smaller .manifest)
+  pub platform-bytes : Bytes (prepared .platform)
+  pub root-bytes : Bytes (prepared .root)
   pub opens : Opens (smaller .manifest) cache state
   pub codes : List ℤ
   pub scales : List Float

@@ -1,9 +1,9 @@
--- The words of demand 3 (document 01, The report: "In demand 3, a library is accepted when the manifest and segment checks let it pass; library
+-- The words of demands 2 and 3 (document 01, The report: "In demand 3, a library is accepted when the manifest and segment checks let it pass; library
 -- and rows are lent unchanged to each search. .. A stroke is a row's record, eligible by its id").
 use mathlib.Core.Path.{_≡_}
 use mathlib.Core.Bool.{Bool, true, false, cond}
 use mathlib.Core.List.{List}
-use Prim.Native.Nat.{ℕ, _≤_, min}
+use Prim.Native.Nat.{ℕ, _≤_, _<_, min}
 use lib.Dec.{leb}
 use lib.IntN.{ℤ}
 use lib.ListN.{length, getD, take}
@@ -79,6 +79,10 @@ pub record Alike (o p : Outcome) : Type 0 where
   pub work : o .work ≡ p .work
 
 -- ---- library and rows
+
+-- what a `&[u8]` always is; the definitions are over lists of any numbers, of which a CRC-32 or a field need not fit its bytes
+abbrev pub Bytes : List ℕ → Type 0
+Bytes l = (b : ℕ) → b ∈ l → b < 256
 
 -- "accepted when the manifest and segment checks let it pass": the segment check tests the manifest anew
 pub record Accepted (m s : List ℕ) : Type 0 where

@@ -1,1 +1,1 @@
-// Demand 3, on what searches answer: a theorem, stated in specs/ and proved in proofs/.
+// Demands 2 and 3, on what the entries answer: theorems, stated in specs/ and proved in proofs/.

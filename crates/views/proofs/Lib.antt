@@ -1,2 +1,0 @@
--- The cached and the resident rows of a library.
-pub mod Views
