@@ -49,8 +49,9 @@ fn past(
     if bad.number != 0 {
         return answers::turned_away(bad);
     }
-    let total = eligible::select(m, layout, all, wanted, work);
+    let n = eligible::select(all, wanted, work);
     if k == 0 {
+        let total = eligible::count(m, layout, all, &work[..n]);
         let report = answers::report_of(m, total, 0, false, 0);
         return Answered {
             refusal: bad,
@@ -65,7 +66,6 @@ fn past(
         };
         return answers::turned_away(short);
     }
-    let n = front::handed_in(all, wanted);
     ranked::ranked(
         kept,
         agree,
@@ -78,7 +78,6 @@ fn past(
         norms,
         all,
         &work[..n],
-        total,
         query,
         k,
         limit,

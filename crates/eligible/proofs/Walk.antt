@@ -8,12 +8,14 @@ use native.Mathlib.Omega.{arith}
 use lib.Dec.{leb, eqb}
 use lib.ListN.{length, take, drop, getD, length-append, length-drop}
 use lib.Seq.{take-at}
+use mir.Val.{boolByte}
 use borrow.Author.Tests.{leb-true, eqb-true, eqb-false}
 use Rattle.le.proofs.Chain.{by, lt-or-le}
 use Rattle.rank.specs.Sort.{sort, Ascending}
 use Rattle.rank.specs.Limit.{among}
+use Rattle.rank.specs.Rows.{passing}
 use Rattle.rank.proofs.Members.{mem-getD, all-at, pairwise-at}
-use Rattle.rank.proofs.Rows.{count-all}
+use Rattle.rank.proofs.Rows.{passing-none, count-more, count-skip, count-most, count-all}
 use Rattle.rank.proofs.Shared.{to-among, not-among, among-sort}
 use Rattle.rank.proofs.Sort.{length-sort, ascending-sort}
 use Rattle.rank.proofs.Numbers.{eq-or-ne, leb-order}
@@ -111,6 +113,19 @@ module _ (m s : List ℕ) (row : ℕ) where
       below = λ i r h k j. omega (arith, S .behind .below i h, ids-rise m row r ok (omega arith) j);
     };
   }
+
+-- ---- how many are eligible before a row
+
+module _ (ok : ℕ → Bool) where
+  pub count-none : 0 ≡ length (passing ok 0)
+  count-none = sym (ap length (passing-none ok))
+
+  pub count-next : {b : Bool} (row : ℕ) {total : ℕ} → total ≡ length (passing ok row) → b ≡ ok row → total + boolByte b ≡ length (passing ok (row + 1))
+  count-next {b = true} row t e = omega (arith, t, count-more ok row (sym e))
+  count-next {b = false} row t e = omega (arith, t, count-skip ok row (sym e))
+
+  pub count-low : {b : Bool} (row : ℕ) {total : ℕ} → total ≡ length (passing ok row) → b ≡ ok row → total + boolByte b ≤ row + 1
+  count-low row t e = rw (count-next row t e) (count-most ok (row + 1))
 
 pub all-eligible : (m : List ℕ) → rowsOf m ≡ length (eligible every everyone m)
 unfolding isEligible wants eligible

@@ -88,26 +88,21 @@ pub fn count(m: &[u8], layout: Layout, all: bool, sorted: &[u64]) -> usize
     while row < layout.rows {
         let s = row_step(m, layout, false, sorted, cursor, row);
         cursor = s.cursor;
-        if s.eligible {
-            total += 1;
-        }
+        total += s.eligible as usize;
         row += 1;
     }
     total
 }
 
-// Of the ids as they are handed in: sorts them into the lent slice, and counts the rows that they make eligible. With all ids wanted
-// they are not looked at, and the slice stays.
-pub fn select(m: &[u8], layout: Layout, all: bool, ids: &[u64], work: &mut [u64]) -> usize
-    requires { ⌜ Placed (now m) layout × (rowsOk (now m) ≡ true) ⌝ }
+// Sorts the ids handed in into the lent slice, and says how many they are. With all ids wanted they are not looked at, and the slice stays.
+pub fn select(all: bool, ids: &[u64], work: &mut [u64]) -> usize
     requires { ⌜ handed (given all (now ids)) ≤ length (now work) ⌝ }
-    ensures { λ r. ⌜ r ≡ length (eligible (given all (now (ids .entry))) everyone (now (m .entry))) ⌝ }
+    ensures { λ r. ⌜ r ≡ handed (given all (now (ids .entry))) ⌝ }
     ensures { λ _. ⌜ now (work .exit) ≡ ordered (given all (now (ids .entry))) ++ drop (handed (given all (now (ids .entry)))) (now (work .entry)) ⌝ }
 {
-    let mut n = 0;
-    if !all {
-        order(ids, work);
-        n = ids.len();
+    if all {
+        return 0;
     }
-    count(m, layout, all, &work[..n])
+    order(ids, work);
+    ids.len()
 }

@@ -41,6 +41,7 @@ use Rattle.ranked.specs.Ends.{Fits, restRefusal, countOf}
 pub record FoundIs (agree : Bool) (rows : Rows) (c : Call) (r : Shortlisted) (ks rs : List ℕ) : Type 0 where
   pub refusal : r .refusal ≡ restRefusal agree rows c
   pub measured : r .refusal .number ≡ 0 → r .measured ≡ length (candidateRows rows c)
+  pub total : r .refusal .number ≡ 0 → r .eligible ≡ length (eligibleRows c)
   pub listed : r .refusal .number ≡ 0 → take (r .measured) rs ≡ sort (byOriginal (c .manifest) (c .segments) (c .query)) (candidateRows rows c)
   pub keys : r .refusal .number ≡ 0
       → take (r .measured) ks ≡ map (keyAt (c .manifest) (c .segments) (c .query)) (sort (byOriginal (c .manifest) (c .segments) (c .query)) (candidateRows rows c))
@@ -72,6 +73,7 @@ module _ (rows : Rows) (c : Call) (w : rows .lengthOk ≡ true) where
       record {
         refusal = S .refusal ∙ rw (e, scan-is rows c w);
         measured = λ z. S .measured ∙ is-done (r .refusal) _ 0 z ∙ ap length e;
+        total = λ z. S .total ∙ is-done (r .refusal) _ 0 z;
         listed = λ z. S .rows z ∙ ap (sort (byOriginal m s q)) e;
         keys = λ z. S .keys z ∙ ap (λ l. map (keyAt m s q) (sort (byOriginal m s q) l)) e;
         agreement =

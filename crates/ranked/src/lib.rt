@@ -3,21 +3,19 @@ ghost use mathlib.Core.Path.{_≡_};
 ghost use mathlib.Core.Bool.{true};
 ghost use mathlib.Core.List.{[]};
 ghost use Prim.Native.Nat.{_≤_, min};
-ghost use lib.ListN.{length};
 ghost use lib.Dec.{leb};
 ghost use Rattle.rank.specs.Sort.{Ascending};
 ghost use Rattle.format.specs.Layout.{Placed};
 ghost use Rattle.entries.specs.Plan.{rowsOk};
-ghost use Rattle.search_spec.specs.Lent.{answersOf, workOf, given, everyone, callOf};
+ghost use Rattle.search_spec.specs.Lent.{answersOf, workOf, given, callOf};
 ghost use Rattle.search_spec.specs.Tests.{queryOk, roomOf};
-ghost use Rattle.search_spec.specs.Lists.{eligible as eligibleOf};
 ghost use Rattle.kept.specs.Seen.{seen};
 ghost use Rattle.ranked.specs.Ends.{Fits, Ends, restRefusal};
 use answers::Answered;
 use format::Layout;
 use kept::Kept;
 
-// Past the length; so many rows are eligible.
+// Past the length.
 pub fn ranked(
     kept: Kept,
     agree: bool,
@@ -30,7 +28,6 @@ pub fn ranked(
     norms: &[i64],
     all: bool,
     sorted: &[u64],
-    eligible: usize,
     query: &[f32],
     k: usize,
     limit: usize,
@@ -45,7 +42,6 @@ pub fn ranked(
     requires { ⌜ Placed (now m) layout × (rowsOk (now m) ≡ true)
         × (seen kept (now m) (now cache) (now codes) (now scales) (now norms) .lengthOk ≡ true) × (k ≡ 0 → ⊥) × (k ≤ limit) ⌝ }
     requires { ⌜ Ascending leb (now sorted)
-        × (eligible ≡ length (eligibleOf (given all (now sorted)) everyone (now m)))
         × (queryOk (now m) (now query) ≡ true)
         × Fits (min k (layout .rows)) (min limit (layout .rows)) (roomOf (answersOf (now ids) (now distances) (now rows) (now places) (now lengths)) (workOf (now keys) (now candidates) [])) ⌝ }
     ensures { λ r. ⌜ (let a = answersOf (now (ids .entry)) (now (distances .entry)) (now (rows .entry)) (now (places .entry)) (now (lengths .entry)) in
@@ -93,6 +89,7 @@ pub fn ranked(
         places,
         lengths,
     );
+    let eligible = found.eligible;
     let report = answers::report_of(m, eligible, measured, limit < eligible, count);
     Answered {
         refusal: refusal,

@@ -195,7 +195,7 @@ module _ {levels : ℕ} {m : List ℕ} {eligible : ℕ → Bool} {view : ℕ →
         let fit = keyed-lt (o .distance) (rw (yielded (o .is) .is) (distance-fits (metricAt m) (view row) query)) in
         keeps (o .is) ks rs (record { count = n; top = top }) (turned-away ks rs same n (keyOf (toBits binary64 (o .distance))) row top (p .0 .0) (p .1) (S .bar) fit (S .word) (o .over)) refl refl (S .word)
 
-    pub stops : {f : Refusal} → said ≡ Refused f → (b c : List ℕ) → ScanIs levels m eligible view query limit (record { refusal = f; count = 0 }) b c
+    pub stops : {f : Refusal} → said ≡ Refused f → (b c : List ℕ) → ScanIs levels m eligible view query limit (record { refusal = f; count = 0; eligible = 0 }) b c
     unfolding rowYields rowAnswer rowRefusal rowsRefusal
     stops {f} e b c =
         let no = refuses valid (eligible row) row distance (sym e) in
@@ -205,13 +205,14 @@ module _ {levels : ℕ} {m : List ℕ} {eligible : ℕ → Bool} {view : ℕ →
         record {
           refusal = r;
           count = sym (is-other (rowsRefusal levels m eligible view query) _ 0 (rw r at no));
+          total = sym (is-other (rowsRefusal levels m eligible view query) _ 0 (rw r at no));
           kept = λ z. absurd (no z);
         }
 
-  pub ends : row ≤ rowsOf m → rowsOf m ≤ row → rowsOk m ≡ true → rowsOf m ≤ 2 ^ 64
-      → ScanIs levels m eligible view query limit (record { refusal = none; count = n }) ks rs
+  pub ends : {total : ℕ} → total ≡ length (passing eligible row) → row ≤ rowsOf m → rowsOf m ≤ row → rowsOk m ≡ true → rowsOf m ≤ 2 ^ 64
+      → ScanIs levels m eligible view query limit (record { refusal = none; count = n; eligible = total }) ks rs
   unfolding rowsRefusal
-  ends h g ok fit =
+  ends t h g ok fit =
       let e : row ≡ rowsOf m = omega arith in
       let r : none ≡ rowsRefusal levels m eligible view query = refusal-end (refusals levels m eligible view query) (rowsOf m) g h (S .reached) in
       let z = ap (λ (f : Refusal). f .number) (sym r) in
@@ -222,6 +223,7 @@ module _ {levels : ℕ} {m : List ℕ} {eligible : ℕ → Bool} {view : ℕ →
       record {
         refusal = r;
         count = omega (arith, H .count, length-map P (keyed near), l) ∙ sym (is-done (rowsRefusal levels m eligible view query) _ 0 z);
+        total = (rw e at t) ∙ sym (is-done (rowsRefusal levels m eligible view query) _ 0 z);
         kept = λ t. ap (sort leb) (take-pairs n ks rs) ∙ H .kept ∙ rw l (least-pack near P (λ r i. omega (arith, passing-pass eligible (rowsOf m) r i)) limit)
             ∙ sym (map-pairs near (least (byKey near) limit P)) ∙ ap (λ c. pairs (map near c) c) (nearest-is levels m eligible view query ok z limit);
       }

@@ -32,6 +32,7 @@ module _ (m : List ℕ) (view : ℕ → View) (query : View) where
 pub record ScanIs (levels : ℕ) (m : List ℕ) (eligible : ℕ → Bool) (view : ℕ → View) (query : View) (limit : ℕ) (s : Scanned) (ks rs : List ℕ) : Type 0 where
   pub refusal : s .refusal ≡ rowsRefusal levels m eligible view query
   pub count : s .count ≡ unlessRefused (rowsRefusal levels m eligible view query) (min limit (length (passing eligible (rowsOf m)))) 0
+  pub total : s .eligible ≡ unlessRefused (rowsRefusal levels m eligible view query) (length (passing eligible (rowsOf m))) 0
   pub kept : s .refusal .number ≡ 0
       → let l = nearest m view query eligible limit in
       sort leb (pairs (take (s .count) ks) (take (s .count) rs)) ≡ pairs (map (nearKey m view query) l) l

@@ -37,10 +37,11 @@ use format::Layout;
 use quantization::Row;
 use row::RowAnswer;
 
-// A refusal, or how many candidates are kept.
+// A refusal, or how many candidates are kept, of how many eligible rows.
 pub struct Scanned {
     pub refusal: Refusal,
     pub count: usize,
+    pub eligible: usize,
 }
 
 // How many are kept, and the key over which none is any more.
@@ -210,12 +211,14 @@ pub fn cached(
     let mut at = quantized_cache::rows_at(cache.len(), rows, q.len());
     let mut row = 0;
     let mut cursor = 0;
+    let mut total = 0;
     let mut count = 0;
     let mut top = bar(ks, 0);
     let mut t = 0;
     while row < rows {
         let e = eligible::row_step(m, layout, all, sorted, cursor, row);
         cursor = e.cursor;
+        total += e.eligible as usize;
         let a = cached_entry(
             levels,
             metric,
@@ -240,6 +243,7 @@ pub fn cached(
                 return Scanned {
                     refusal: refusal,
                     count: 0,
+                    eligible: 0,
                 };
             }
         }
@@ -252,6 +256,7 @@ pub fn cached(
             place: 0,
         },
         count: count,
+        eligible: total,
     }
 }
 
@@ -292,12 +297,14 @@ pub fn resident(
     let mut at = 0;
     let mut row = 0;
     let mut cursor = 0;
+    let mut total = 0;
     let mut count = 0;
     let mut top = bar(ks, 0);
     let mut t = 0;
     while row < rows {
         let e = eligible::row_step(m, layout, all, sorted, cursor, row);
         cursor = e.cursor;
+        total += e.eligible as usize;
         let r = row_of(scales, norms, row);
         let a = resident_entry(
             levels,
@@ -324,6 +331,7 @@ pub fn resident(
                 return Scanned {
                     refusal: refusal,
                     count: 0,
+                    eligible: 0,
                 };
             }
         }
@@ -336,5 +344,6 @@ pub fn resident(
             place: 0,
         },
         count: count,
+        eligible: total,
     }
 }

@@ -1,6 +1,6 @@
 -- Kept rows by original order, and their agreement with all eligible rows. Assumes nothing.
 use mathlib.Core.Path.{_≡_, refl, sym, ap, _∙_}
-use mathlib.Core.Bool.{Bool, true, false}
+use mathlib.Core.Bool.{Bool, true, false, cond}
 use mathlib.Core.Logic.{⊎-elim}
 use mathlib.Core.List.{List, map}
 use Prim.Native.Nat.{ℕ, _≤_, _<_, min}
@@ -18,7 +18,7 @@ use Rattle.rank.proofs.Members.{mem-take, pairwise-take, take-map}
 use Rattle.rank.proofs.Sort.{length-sort, from-sort, to-sort, distinct-sort, ascending-sort, sort-sort}
 use Rattle.rank.proofs.ByKey.{order}
 use Rattle.rank.proofs.Rows.{passing-pass, rows-below}
-use Rattle.config.specs.Refusal.{none}
+use Rattle.config.specs.Refusal.{none, thenRefusal}
 use Rattle.config.specs.declared.Refusal.{Refusal}
 use Rattle.config.proofs.Refusals.{is-done, is-other}
 use Rattle.format.specs.Fields.{rowsOf}
@@ -34,8 +34,20 @@ use Rattle.agreement.specs.Count.{Listed, CountIs, allRanked}
 use Rattle.agreement.specs.declared.Counted.{Counted}
 use Rattle.shortlist.specs.Shortlist.{Kept, refusedWith, RankedIs}
 
+-- refused, by the records or by what comes before them
+pub turned : {first f : Refusal} {agree : Bool} {k : ℕ} {m s : List ℕ} {q : List Float} {eligible : ℕ → Bool} {C ks rs : List ℕ}
+    → f ≡ thenRefusal first (recordsRefusal m s q (cond agree (passing eligible (rowsOf m)) C)) → (f .number ≡ 0 → ⊥) → RankedIs first agree k m s q eligible C (refusedWith f) ks rs
+turned {f} {agree} {k} {m} {s} {q} {eligible} {C} is some = record {
+  refusal = is;
+  measured = sym (is-other f (length C) 0 some);
+  total = sym (is-other f (length (passing eligible (rowsOf m))) 0 some);
+  rows = λ y. absurd (some y);
+  keys = λ y. absurd (some y);
+  agreement = by agree (λ t. rw t (sym (is-other f (samePlaces (take k (sort (byOriginal m s q) C)) (allRanked m s q eligible)) 0 some))) (λ t. rw t);
+}
+
 -- the rows `given` are kept, and the rerank returned r and left e and f
-module _ {m : List ℕ} {eligible : ℕ → Bool} {given : List ℕ} (K : Kept m eligible given) where
+module _ {m : List ℕ} {eligible : ℕ → Bool} {total : ℕ} {given : List ℕ} (K : Kept m eligible total given) where
   abbrev P : List ℕ
   P = passing eligible (rowsOf m)
 
@@ -91,19 +103,25 @@ module _ {m : List ℕ} {eligible : ℕ → Bool} {given : List ℕ} (K : Kept m
             ∙ take-all (r .measured) (map (keyAt m s q) (sort (byOriginal m s q) C)) (omega (arith, all-C, length-map (sort (byOriginal m s q) C) (keyAt m s q), length-sort (byOriginal m s q) C))
 
       -- a search
-      pub plain : {agree : Bool} {k : ℕ} → agree ≡ false → RankedIs none agree k m s q eligible C (record { refusal = r .refusal; measured = r .measured; agreement = 0 }) e f
-      plain off = rw off (record {
-        refusal = R C alike .refusal;
-        measured = rw (R C alike .refusal) (R C alike .measured);
-        rows = rows-C;
-        keys = keys-C;
-        agreement = refl;
-      })
+      module _ {agree : Bool} {k : ℕ} (off : agree ≡ false) where
+        pub plain : r .refusal .number ≡ 0
+            → RankedIs none agree k m s q eligible C (record { refusal = r .refusal; measured = r .measured; eligible = total; agreement = 0 }) e f
+        plain z = rw off (record {
+          refusal = R C alike .refusal;
+          measured = rw (R C alike .refusal) (R C alike .measured);
+          total = K .total ∙ sym (is-done (r .refusal) (length P) 0 z);
+          rows = rows-C;
+          keys = keys-C;
+          agreement = refl;
+        })
+
+        pub plain-refused : (r .refusal .number ≡ 0 → ⊥) → RankedIs none agree k m s q eligible C (refusedWith (r .refusal)) e f
+        plain-refused = turned (rw off (R C alike .refusal))
 
       -- an agreement call: the count was of the first n
       module _ {agree : Bool} {k : ℕ} (on : agree ≡ true) {c : Counted} where
         pub counted : (n : ℕ) → n ≡ min k (r .measured) → CountIs m s q eligible (take n f) c → c .refusal .number ≡ 0
-            → RankedIs none agree k m s q eligible C (record { refusal = c .refusal; measured = r .measured; agreement = c .agreement }) e f
+            → RankedIs none agree k m s q eligible C (record { refusal = c .refusal; measured = r .measured; eligible = total; agreement = c .agreement }) e f
         counted n is N y =
             let z : r .refusal .number ≡ 0 =
             ap (λ (x : Refusal). x .number) (R C alike .refusal ∙ records-fewer m s q C P within-C (rw (N .refusal) at y)) in
@@ -113,6 +131,7 @@ module _ {m : List ℕ} {eligible : ℕ → Bool} {given : List ℕ} (K : Kept m
             (record {
               refusal = N .refusal;
               measured = all-C z ∙ sym (is-done (c .refusal) (length C) 0 y);
+              total = K .total ∙ sym (is-done (c .refusal) (length P) 0 y);
               rows = λ x. rows-C z;
               keys = λ x. keys-C z;
               agreement = rw t at (N .agreement);
@@ -129,10 +148,4 @@ module _ {m : List ℕ} {eligible : ℕ → Bool} {given : List ℕ} (K : Kept m
         -- that is refused
         pub not-counted : (n : ℕ) → CountIs m s q eligible (take n f) c → (c .refusal .number ≡ 0 → ⊥)
             → RankedIs none agree k m s q eligible C (refusedWith (c .refusal)) e f
-        not-counted n N some = rw on (record {
-          refusal = N .refusal;
-          measured = sym (is-other (c .refusal) (length C) 0 some);
-          rows = λ y. absurd (some y);
-          keys = λ y. absurd (some y);
-          agreement = sym (is-other (c .refusal) (samePlaces (take k (sort (byOriginal m s q) C)) (allRanked m s q eligible)) 0 some);
-        })
+        not-counted n N = turned (rw on (N .refusal))

@@ -19,17 +19,16 @@ use Rattle.rank.proofs.Rows.{passing-pass, passing-rising}
 use Rattle.rank.proofs.Rekeyed.{rows-alone}
 use Rattle.config.specs.Refusal.{none}
 use Rattle.config.specs.declared.Refusal.{Refusal}
-use Rattle.config.proofs.Refusals.{then-rest, then-first, is-done, is-other}
+use Rattle.config.proofs.Refusals.{then-rest, then-first, is-done}
 use Rattle.quantization.specs.View.{View}
 use Rattle.format.specs.Fields.{rowsOf}
-use Rattle.search_spec.specs.Lists.{byApproximate, byOriginal}
-use Rattle.search_spec.specs.Outcome.{samePlaces}
-use Rattle.agreement.specs.Count.{allRanked}
+use Rattle.search_spec.specs.Lists.{byApproximate}
 use Rattle.search_spec.specs.Scan.{rowsRefusal, recordsRefusal}
 use Rattle.scan.specs.Scan.{nearKey, nearest, ScanIs}
 use Rattle.scan.specs.declared.Scanned.{Scanned as Found}
 use Rattle.shortlist.specs.Shortlist.{Kept, refusedWith, RankedIs, ShortlistIs}
 use Rattle.shortlist.specs.declared.Shortlisted.{Shortlisted}
+use Rattle.shortlist.proofs.Counted.{turned}
 
 -- what a scan returned and left
 pub record Scanned (levels : ℕ) (m : List ℕ) (eligible : ℕ → Bool) (view : ℕ → View) (query : View) (limit : ℕ) (r : Found) (ks rs : List ℕ) : Type 0 where
@@ -82,8 +81,9 @@ module _ {levels : ℕ} {m : List ℕ} {eligible : ℕ → Bool} {view : ℕ →
         (cut-keys ∙ sym cut-rows) (length-map C (nearKey m view query))
         (λ n h. all-at (λ z. z < 2 ^ 64) rs 0 (λ i l. H .words i) n (mem-take n (r .count) rs h)) (λ n h. let l = passing-pass eligible (rowsOf m) n (in-P n h) .0 in let f = H .few in omega arith) (S .kept z)
 
-    pub kept : Kept m eligible (take (r .count) rs)
+    pub kept : Kept m eligible (r .eligible) (take (r .count) rs)
     kept = record {
+      total = S .total ∙ is-done first (length P) 0 no-first;
       once = rw rows-are (distinct-sort leb C once-C);
       within = λ n i. in-P n (from-sort leb n C (rw rows-are at (to-sort leb n (take (r .count) rs) i)));
     }
@@ -100,6 +100,7 @@ module _ {levels : ℕ} {m : List ℕ} {eligible : ℕ → Bool} {view : ℕ →
         record {
           refusal = R .refusal ∙ sym (then-rest first (recordsRefusal m s q (cond agree P C)) no-first);
           measured = R .measured;
+          total = R .total;
           rows = λ y. front f h (lf ∙ cut-rows) (n y) ∙ R .rows y;
           keys = λ y. front e g (le ∙ cut-keys) (n y) ∙ R .keys y;
           agreement = R .agreement;
@@ -112,10 +113,4 @@ module _ {levels : ℕ} {m : List ℕ} {eligible : ℕ → Bool} {view : ℕ →
   pub refused-first : {agree : Bool} {k : ℕ} {s : List ℕ} {q : List Float} → (r .refusal .number ≡ 0 → ⊥)
       → ShortlistIs agree k levels m s q eligible view query limit (refusedWith (r .refusal)) ks rs
   refused-first {agree} {k} {s} {q} some =
-      record {
-        refusal = S .refusal ∙ sym (then-first first (recordsRefusal m s q (cond agree P C)) (λ y. some (rw (S .refusal) y)));
-        measured = sym (is-other (r .refusal) (length C) 0 some);
-        rows = λ y. absurd (some y);
-        keys = λ y. absurd (some y);
-        agreement = by agree (λ t. rw t (sym (is-other (r .refusal) (samePlaces (take k (sort (byOriginal m s q) C)) (allRanked m s q eligible)) 0 some))) (λ t. rw t);
-      }
+      turned (S .refusal ∙ sym (then-first first (recordsRefusal m s q (cond agree P C)) (λ y. some (rw (S .refusal) y)))) some

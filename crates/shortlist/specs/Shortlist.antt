@@ -22,20 +22,22 @@ use Rattle.rerank.specs.Rerank.{keyAt}
 use Rattle.agreement.specs.Count.{allRanked}
 use Rattle.shortlist.specs.declared.Shortlisted.{Shortlisted}
 
--- what a scan hands on: eligible rows, in any order, each once
-pub record Kept (m : List ℕ) (eligible : ℕ → Bool) (rs : List ℕ) : Type 0 where
+-- what a scan hands on: how many rows are eligible, and some of these, in any order, each once
+pub record Kept (m : List ℕ) (eligible : ℕ → Bool) (n : ℕ) (rs : List ℕ) : Type 0 where
+  pub total : n ≡ length (passing eligible (rowsOf m))
   pub once : Distinct (sort leb rs)
   pub within : (r : ℕ) → r ∈ rs → r ∈ passing eligible (rowsOf m)
 
 -- "All counts are then 0"
 abbrev pub refusedWith : Refusal → Shortlisted
-refusedWith refusal = record { refusal = refusal; measured = 0; agreement = 0 }
+refusedWith refusal = record { refusal = refusal; measured = 0; eligible = 0; agreement = 0 }
 
 -- r is returned for the candidates C, where `first` is what was refused before their records were looked at, and ks and rs hold C by original
 -- order at their front; the agreement is that of the first k with all eligible rows
 pub record RankedIs (first : Refusal) (agree : Bool) (k : ℕ) (m s : List ℕ) (q : List Float) (eligible : ℕ → Bool) (C : List ℕ) (r : Shortlisted) (ks rs : List ℕ) : Type 0 where
   pub refusal : r .refusal ≡ thenRefusal first (recordsRefusal m s q (cond agree (passing eligible (rowsOf m)) C))
   pub measured : r .measured ≡ unlessRefused (r .refusal) (length C) 0
+  pub total : r .eligible ≡ unlessRefused (r .refusal) (length (passing eligible (rowsOf m))) 0
   pub rows : r .refusal .number ≡ 0 → take (r .measured) rs ≡ sort (byOriginal m s q) C
   pub keys : r .refusal .number ≡ 0 → take (r .measured) ks ≡ map (keyAt m s q) (sort (byOriginal m s q) C)
   pub agreement : r .agreement ≡ cond agree (unlessRefused (r .refusal) (samePlaces (take k (sort (byOriginal m s q) C)) (allRanked m s q eligible)) 0) 0

@@ -25,10 +25,11 @@ use config::Refusal;
 use format::Layout;
 use quantization::Row;
 
-// A refusal, or how many records were measured and, for an agreement call, at how many places the lists agree.
+// A refusal, or how many records were measured, of how many eligible rows, and, for an agreement call, at how many places the lists agree.
 pub struct Shortlisted {
     pub refusal: Refusal,
     pub measured: usize,
+    pub eligible: usize,
     pub agreement: usize,
 }
 
@@ -38,6 +39,7 @@ fn refused(refusal: Refusal) -> Shortlisted
     Shortlisted {
         refusal: refusal,
         measured: 0,
+        eligible: 0,
         agreement: 0,
     }
 }
@@ -55,19 +57,24 @@ fn behind(
     inverse: f64,
     all: bool,
     sorted: &[u64],
+    total: usize,
     ks: &mut [u64],
     rs: &mut [u64],
 ) -> Shortlisted
     requires { ⌜ Located (now m) layout metric (now starts) × Asked (now m) metric (now vector) inverse × Ascending leb (now sorted) ⌝ }
-    requires { ⌜ (length (now ks) ≡ length (now rs)) × Kept (now m) (isEligible (given all (now sorted)) everyone (now m)) (now rs) ⌝ }
+    requires { ⌜ (length (now ks) ≡ length (now rs)) × Kept (now m) (isEligible (given all (now sorted)) everyone (now m)) total (now rs) ⌝ }
     ensures { λ r. ⌜ ((C : List ℕ) → sort leb (now (rs .entry)) ≡ sort leb C → RankedIs none agree k (now (m .entry)) (now (s .entry)) (now (vector .entry)) (isEligible (given all (now (sorted .entry))) everyone (now (m .entry))) C r (now (ks .exit)) (now (rs .exit))) ⌝ }
 {
     let r = rerank::rerank(m, layout, metric, starts, s, vector, inverse, ks, rs);
     if !agree {
         let refusal = r.refusal;
+        if refusal.number != 0 {
+            return refused(refusal);
+        }
         return Shortlisted {
             refusal: refusal,
             measured: r.measured,
+            eligible: total,
             agreement: 0,
         };
     }
@@ -93,6 +100,7 @@ fn behind(
         return Shortlisted {
             refusal: refusal,
             measured: r.measured,
+            eligible: total,
             agreement: c.agreement,
         };
     }
@@ -154,6 +162,7 @@ pub fn cached(
             inverse,
             all,
             sorted,
+            r.eligible,
             &mut ks[..n],
             &mut rs[..n],
         );
@@ -220,6 +229,7 @@ pub fn resident(
             inverse,
             all,
             sorted,
+            r.eligible,
             &mut ks[..n],
             &mut rs[..n],
         );

@@ -1,22 +1,20 @@
 use borrow.Author.Needs.{needs}
-use mathlib.Core.Path.{_≡_, ap, sym, _∙_}
-use mathlib.Core.Logic.{⊎-elim}
-use Prim.Native.Nat.{_-_, _+_, _≤_}
+use mathlib.Core.Path.{_≡_, _∙_}
+use Prim.Native.Nat.{_-_, _≤_}
 use lib.ListN.{length}
 use Rattle.rank.specs.Rows.{passing}
-use Rattle.rank.proofs.Rows.{passing-none, count-more, count-skip}
 use Rattle.format.specs.Fields.{rowsOf}
 use Rattle.search_spec.specs.Lent.{only, everyone}
 use Rattle.search_spec.specs.Lists.{isEligible, eligible}
 use Rattle.eligible.specs.Walk.{Walked}
-use Rattle.eligible.proofs.Walk.{begun, all-eligible}
+use Rattle.eligible.proofs.Walk.{begun, count-none, count-next, count-low, all-eligible}
 use native.Mathlib.Omega.{arith}
 use Rattle.eligible.proofs.count.Statement.{statement}
 use Rattle.eligible.proofs.count.Tie as tie
 
 abbrev Inv-loop : tie.InvT-loop
 Inv-loop m layout all sorted row₀ cursor₀ total₀ row cursor total =
-    (row ≤ layout .rows) × Walked m sorted cursor row × (total ≡ length (passing (isEligible (only sorted) everyone m) row)) × (total ≤ row)
+    (row ≤ layout .rows) × Walked m sorted cursor row × (total ≡ length (passing (isEligible (only sorted) everyone m) row))
 
 abbrev μ-loop : tie.MeasureT-loop
 μ-loop m layout all sorted row₀ cursor₀ total₀ row cursor total = layout .rows - row
@@ -31,20 +29,16 @@ count-spec =
     (λ c. let b = c .before .before .before in
     b .pre .0 .rows ∙ rw (c .if1 .taken) (all-eligible (b .args .m .now)))
     (λ c. let b = c .before .before .before in
-    (search needs, begun (b .args .m .now) (b .args .sorted .now), sym (ap length (passing-none (isEligible (only (b .args .sorted .now)) everyone (b .args .m .now)))), search needs))
+    (search needs, begun (b .args .m .now) (b .args .sorted .now), count-none _))
     (λ c κs. let b = c .before .before .before .before .before .before in
     ((b .pre .0, c .if2 .taken, b .pre .1), (b .pre .2, c .before .before .loop .inv .1)))
-    (λ c. let L = c .before .before .before .before .loop in omega (arith, L .inv .3, L .inv .0))
+    (λ c. search needs)
+    (λ c. let L = c .before .before .before .before .loop in omega (arith, count-low _ (L .row) (L .inv .2) (c .before .row-step .ensures .is), c .before .before .if2 .taken))
     (λ c. search needs)
     (λ c. search needs)
     (λ c. let L = c .before .before .before .before .loop in
-    let b = c .before .before .before .before .before .before .before .before in
     let t = c .before .row-step .ensures in
-    let ok = isEligible (only (b .args .sorted .now)) everyone (b .args .m .now) in
-    ⊎-elim
-    (λ w. (search needs, t .next, w .1 ∙ ap (λ k. k + 1) (L .inv .2) ∙ sym (count-more ok (L .row) (sym (t .is) ∙ w .0 .taken)), omega (arith, w .1, L .inv .3)))
-    (λ w. (search needs, t .next, w .1 ∙ L .inv .2 ∙ sym (count-skip ok (L .row) (sym (t .is) ∙ w .0 .left)), omega (arith, w .1, L .inv .3)))
-    (c .if3 .came))
+    (search needs, t .next, count-next _ (L .row) (L .inv .2) (t .is)))
     (λ c. let L = c .before .before .loop in
     let b = c .before .before .before .before .before .before in
     let e : L .row ≡ rowsOf (b .args .m .now) = omega (arith, L .inv .0, c .if2 .left, b .pre .0 .rows) in

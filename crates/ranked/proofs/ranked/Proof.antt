@@ -9,7 +9,6 @@ use Rattle.format.specs.Fields.{rowsOf}
 use Rattle.entries.proofs.Entries.{lengths-of}
 use Rattle.search_spec.specs.Lent.{Rows, Call, given, answersOf, workOf, callOf}
 use Rattle.kept.specs.Seen.{seen}
-use Rattle.search_spec.specs.Lists.{eligibleRows}
 use Rattle.search_spec.specs.Outcome.{filled}
 use Rattle.ranked.proofs.Ended.{turned, done, ends-as, report-is}
 use Rattle.kept.proofs.Seen.{seen-base}
@@ -28,10 +27,10 @@ slots : (c : tie.After-lesser) → c .lesser .result ≡ min (c .before .before 
 slots c = c .lesser .ensures ∙ rw (c .before .before .before .before .before .before .before .before .before .before .before .before .before .before .before .pre .0 .0 .rows)
 
 keys-long : (c : tie.After-lesser) → c .lesser .result ≤ length (c .before .before .before .before .before .before .before .before .before .before .before .before .before .before .before .args .keys .now)
-keys-long c = let e = c .lesser .ensures in let h = c .before .before .before .before .before .before .before .before .before .before .before .before .before .before .before .pre .1 .3 .keys in omega (arith, e, h)
+keys-long c = let e = c .lesser .ensures in let h = c .before .before .before .before .before .before .before .before .before .before .before .before .before .before .before .pre .1 .2 .keys in omega (arith, e, h)
 
 candidates-long : (c : tie.After-lesser) → c .lesser .result ≤ length (c .before .before .before .before .before .before .before .before .before .before .before .before .before .before .before .args .candidates .now)
-candidates-long c = let e = c .lesser .ensures in let h = c .before .before .before .before .before .before .before .before .before .before .before .before .before .before .before .pre .1 .3 .candidates in omega (arith, e, h)
+candidates-long c = let e = c .lesser .ensures in let h = c .before .before .before .before .before .before .before .before .before .before .before .before .before .before .before .pre .1 .2 .candidates in omega (arith, e, h)
 
 keys-cut : (c : tie.After-lesser) → length (take (c .lesser .result) (c .before .before .before .before .before .before .before .before .before .before .before .before .before .before .before .args .keys .now)) ≡ c .lesser .result
 keys-cut c = length-take-le (c .lesser .result) (c .before .before .before .before .before .before .before .before .before .before .before .before .before .before .before .args .keys .now) (keys-long c)
@@ -62,7 +61,6 @@ returns : tie.Need-returns
 returns c = ends-as (here (c .before .before .before .before .before .before .before .before) .refusal) (turned (c .before .if1 .taken) (c .turned-away .ensures))
 
 returns-2 : tie.Need-returns-2
-unfolding eligibleRows
 returns-2 c =
     let b = c .before .before .before .before .before .before .before .before .before .before .before .before .before .before .before .before .before .before .before .before .before .before .before .before .before .before .before .before .before .before .before .before .before .before .before .before .before .before .before .before .before .before .before .before .before .before .before in
     let F = here (c .before .before .before .before .before .before .before .before .before .before .before .before .before .before .before .before .before .before .before .before .before .before .before .before .before .before .before .before) in
@@ -72,7 +70,7 @@ returns-2 c =
     let low = b .pre .0 .4 in
     ends-as (F .refusal)
     (done z
-    (c .report-of .ensures ∙ report-is (view b) (call b) (b .pre .1 .1) (b .pre .0 .3) (F .measured z) (n ∙ count-is low F z))
+    (c .report-of .ensures ∙ report-is (view b) (call b) (F .total z) (b .pre .0 .3) (F .measured z) (n ∙ count-is low F z))
     (F .agreement z)
     (c .before .before .before .before .before .before .before .before .before .before .before .write .ensures ∙ ap (λ l. filled l (call b .answers)) (shown-places low F z _ _ n (h .0) (h .1))))
 
@@ -83,7 +81,7 @@ write-requires c κs =
     let F = here (c .before .before .before .before .before .before .before .before .before .before .before .before .before .before .before .before) in
     let n = c .before .before .before .before .before .before .before .before .lesser2 .ensures in
     let h = counts (c .before .before .before .before .before .before .before .before) in
-    let g = b .pre .1 .3 in
+    let g = b .pre .1 .2 in
     let f = few (c .before .before .before .before .before .before .before .before) in
     let e = p .0 .rows in
     let x = front-length (c .before .before .before .before .before .before .before .before .lesser2 .result) (c .before .before .before .before .before .before .before .before .before .before .before .before .before .before .before .before .find .last .1 .1 .1 .1 .1 .1 .1 .1 .1 .1 .1 .1 .1 .1 .1 .0) (drop (c .before .before .before .before .before .before .before .before .before .before .before .before .before .before .before .before .before .before .before .before .lesser .result) (b .args .keys .now)) (h .0) in
@@ -102,7 +100,7 @@ find-requires : tie.Need-find-requires
 find-requires c κs =
     let b = c .before .before .before .before .before .before .before .before .before .before .before .before .before .before .before .before .before .before in
     let p = b .pre .0 in (
-      (p .0, p .1, c .before .before .before .before .starts .ensures, b .pre .1 .2),
+      (p .0, p .1, c .before .before .before .before .starts .ensures, b .pre .1 .1),
       ((search needs, search needs), p .2, b .pre .1 .0, keys-cut (c .before .before .before) ∙ sym (candidates-cut (c .before .before .before))),
     )
 

@@ -5,19 +5,19 @@ use mathlib.Core.Path.{_≡_}
 use mathlib.Core.Logic.{⊎-elim}
 use Prim.Native.Nat.{min, _≤_}
 use lib.ListN.{length, length-take}
-use Rattle.shortlist.proofs.Counted.{rows-in, most, listed, plain, counted, not-counted}
+use Rattle.shortlist.proofs.Counted.{rows-in, most, listed, plain, plain-refused, counted, not-counted}
 use Rattle.shortlist.proofs.behind.Statement.{statement}
 use Rattle.shortlist.proofs.behind.Tie as tie
 
-abbrev start : tie.Joined2 → tie.Start
+abbrev start : tie.Joined3 → tie.Start
 start c = c .before .before .before .before .before .before .before .before .before .before .before .before .before .before .before
 
 -- how many are listed
-first-are : (c : tie.Joined2) → c .if2 .n ≡ min (start c .args .k) (c .before .before .before .before .before .before .rerank .result .measured)
-first-are c = ⊎-elim (λ w. omega (arith, w .0 .taken, w .1)) (λ w. omega (arith, w .0 .left, w .1)) (c .if2 .came)
+first-are : (c : tie.Joined3) → c .if3 .n ≡ min (start c .args .k) (c .before .before .before .before .before .before .rerank .result .measured)
+first-are c = ⊎-elim (λ w. omega (arith, w .0 .taken, w .1)) (λ w. omega (arith, w .0 .left, w .1)) (c .if3 .came)
 
 -- they stand in both slices
-room : (c : tie.Joined2) → let r = c .before .before .before .before .before .before .rerank in (c .if2 .n ≤ length (r .last .1 .1 .1 .1 .1 .1 .1 .0)) × (c .if2 .n ≤ length (r .last .1 .1 .1 .1 .1 .1 .1 .1 .0))
+room : (c : tie.Joined3) → let r = c .before .before .before .before .before .before .rerank in (c .if3 .n ≤ length (r .last .1 .1 .1 .1 .1 .1 .1 .0)) × (c .if3 .n ≤ length (r .last .1 .1 .1 .1 .1 .1 .1 .1 .0))
 room c =
     let r = c .before .before .before .before .before .before .rerank in
     let p = start c .pre .1 in
@@ -30,22 +30,28 @@ behind-spec =
     tie.close
     (tie.spec
     (λ c κs. let p = c .before .before .before .before .before .before .before .before .pre in (p .0 .0, p .0 .1, rows-in (p .1 .1) (p .0 .0 .placed .rows), p .1 .0))
+    (λ c κs. search needs)
     (λ c. search needs)
     (λ c. search needs)
-    (λ c. λ C alike. plain (c .before .before .before .before .before .before .before .before .before .before .before .before .before .before .before .pre .1 .1) (c .before .before .before .before .before .before .rerank .ensures) C alike (not-true _ (c .before .if1 .taken)))
+    (λ c. let d = c .before .before .before .before in
+    λ C alike. rw (c .refused .ensures) (plain-refused (d .before .before .before .before .before .before .before .before .before .before .before .before .before .before .pre .1 .1) (d .before .before .before .before .before .rerank .ensures) C alike (not-true _ (d .if1 .taken)) (c .before .if2 .taken)))
+    (λ c. search needs)
+    (λ c. search needs)
+    (λ c. let d = c .before .before .before in
+    λ C alike. plain (d .before .before .before .before .before .before .before .before .before .before .before .before .before .before .pre .1 .1) (d .before .before .before .before .before .rerank .ensures) C alike (not-true _ (d .if1 .taken)) (c .if2 .left))
     (λ c. room c .0)
     (λ c. simp length-take (omega (arith, room (c .before) .0)))
     (λ c. room (c .before) .1)
     (λ c. simp length-take (omega (arith, room (c .before .before) .1)))
     (λ c κs. let j = c .before .before in
     let p = start j .pre in
-    (p .0, listed (p .1 .1) (j .before .before .before .before .before .before .rerank .ensures) (p .0 .0 .rows) (j .if2 .n) (omega (arith, first-are j))))
+    (p .0, listed (p .1 .1) (j .before .before .before .before .before .before .rerank .ensures) (p .0 .0 .rows) (j .if3 .n) (omega (arith, first-are j))))
     (λ c. search needs)
     (λ c. search needs)
     (λ c. let j = c .before .before .before .before .before .before in
-    λ C alike. counted (start j .pre .1 .1) (j .before .before .before .before .before .before .rerank .ensures) C alike (not-false _ (j .before .if1 .left)) (j .if2 .n) (first-are j) (c .before .before .before .count .ensures) (c .if3 .taken))
+    λ C alike. counted (start j .pre .1 .1) (j .before .before .before .before .before .before .rerank .ensures) C alike (not-false _ (j .before .if1 .left)) (j .if3 .n) (first-are j) (c .before .before .before .count .ensures) (c .if4 .taken))
     (λ c κs. search needs)
     (λ c. search needs)
     (λ c. search needs)
     (λ c. let j = c .before .before .before .before .before .before .before in
-    λ C alike. rw (c .refused .ensures) (not-counted (start j .pre .1 .1) (j .before .before .before .before .before .before .rerank .ensures) C alike (not-false _ (j .before .if1 .left)) (j .if2 .n) (c .before .before .before .before .count .ensures) (c .before .if3 .left))))
+    λ C alike. rw (c .refused2 .ensures) (not-counted (start j .pre .1 .1) (j .before .before .before .before .before .before .rerank .ensures) C alike (not-false _ (j .before .if1 .left)) (j .if3 .n) (c .before .before .before .before .count .ensures) (c .before .if4 .left))))

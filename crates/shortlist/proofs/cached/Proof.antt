@@ -47,7 +47,7 @@ cached-spec =
     (λ c. let H = here (c .before .before .before .before .before .before .before .before .before .before) in
     let z = c .before .before .before .before .before .before .before .if1 .taken in
     let r = c .before .before .before .before .behind in
-    joined H z (r .kept .1 .1 .1 .1 .1 .1 .1 .1 .1 .1 .1 .0) (r .kept .1 .1 .1 .1 .1 .1 .1 .1 .1 .1 .1 .1 .0) (r .ensures _ (rows-are H z)) _ _)
+    joined H z (r .kept .1 .1 .1 .1 .1 .1 .1 .1 .1 .1 .1 .1 .0) (r .kept .1 .1 .1 .1 .1 .1 .1 .1 .1 .1 .1 .1 .1 .0) (r .ensures _ (rows-are H z)) _ _)
     (λ c κs. search needs)
     (λ c. search needs)
     (λ c. search needs)
