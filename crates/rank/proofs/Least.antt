@@ -46,7 +46,7 @@ module _ {A : Type 0} (le : A → A → Bool) where
       → take (length (y ∷ t)) (insert le x (sort le (y ∷ t))) ≡ sort le (x ∷ t)
   unfolding sort
   keep-less x y t h e =
-      rw (sort-greatest le y t h, insert-before le x y (sort le t) e)
+      rw (sort-greatest le y t h, insert-before le x (sort le t) (y ∷ []) (λ z. ⊎-elim (λ p. rw p e) (λ m. absurd m)))
       (take-at (insert le x (sort le t)) (y ∷ []) (suc (length t)) (length-insert le x (sort le t) ∙ ap suc (length-sort le t)))
 
   pub keep-more : (x : A) (s : List A) → ((z : A) → z ∈ s → le z x ≡ true) → take (length s) (insert le x (sort le s)) ≡ sort le s

@@ -13,6 +13,8 @@ pub mod Rekeyed
 pub mod Order
 pub mod Sift
 pub mod Down
+pub mod Insertion
+pub mod Parts
 pub mod Bounded
 pub mod Two
 pub mod Scan

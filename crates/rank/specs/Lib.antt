@@ -4,3 +4,4 @@ pub mod Rows
 pub mod Order
 pub mod Pairs
 pub mod Heap
+pub mod Parted
