@@ -2,20 +2,20 @@
 -- own, so that the order of the numbers is the order by segment and offset. For rows whose entries keep their rules.
 use mathlib.Core.Bool.{cond}
 use mathlib.Core.List.{List, [], _∷_, _++_, map}
-use Prim.Native.Nat.{ℕ, suc, _+_, _*_, _/_, _%_, _<_}
+use Prim.Native.Nat.{ℕ, suc, _+_, _*_, _/_, _%_, _^_, _<_}
 use lib.Dec.{eqb}
 use lib.ListN.{length, getD, drop}
 use Rattle.format.specs.Fields.{rowsOf, segmentAt, offsetAt}
 use Rattle.manifest.specs.Tiling.{physical}
 
 unfoldable pub key : List ℕ → ℕ → ℕ
-key m r = (segmentAt m r * 67108864 + offsetAt m r) * 1048576 + r
+key m r = (segmentAt m r * 2 ^ 26 + offsetAt m r) * 2 ^ 20 + r
 
 unfoldable pub keySegment : ℕ → ℕ
-keySegment k = k / 70368744177664
+keySegment k = k / 2 ^ 46
 
 unfoldable pub keyRow : ℕ → ℕ
-keyRow k = k % 1048576
+keyRow k = k % 2 ^ 20
 
 -- the rows in the order of their records
 abbrev pub rowKeys : List ℕ → List ℕ

@@ -27,10 +27,16 @@ insideOf m s n = take (lengthOf m n - 4) (drop (startOf m n) s)
 unfoldable pub segmentCrcOk : List ℕ → List ℕ → ℕ → Bool
 segmentCrcOk m s n = eqb (crc32 (insideOf m s n)) (leAt 4 s (startOf m n + (lengthOf m n - 4))) && eqb (crc32 (insideOf m s n)) (crcOf m n)
 
+-- a test, its number and its place, before the rest
+abbrev pub unlessAt : Bool → ℕ → ℕ → Refusal → Refusal
+unlessAt ok number place rest = cond ok rest (refused number place)
+
 -- the rows of segment n by offset, then its CRC-32
 unfoldable pub rowsRefusal : List ℕ → List ℕ → ℕ → List ℕ → Refusal
 rowsRefusal m s n rows =
-    cond (eqb (badRecord m s rows) (length rows)) (cond (segmentCrcOk m s n) none (refused 6 n)) (refused 5 (getD rows (badRecord m s rows) 0))
+    let bad = badRecord m s rows in
+    unlessAt (eqb bad (length rows)) 5 (getD rows bad 0)
+    (unlessAt (segmentCrcOk m s n) 6 n none)
 
 abbrev pub segmentRefusal : List ℕ → List ℕ → ℕ → Refusal
 segmentRefusal m s n = rowsRefusal m s n (inSegment m n)
