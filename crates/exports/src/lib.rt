@@ -6,10 +6,9 @@ ghost use lib.ListN.{length};
 ghost use Rattle.quantization.specs.Encoder.{baseLevels, midpoints};
 ghost use Rattle.manifest.specs.Check.{scratchAfter};
 ghost use Rattle.segment.specs.Check.{libraryRefusal};
-ghost use Rattle.quantized_cache.specs.Size.{sizeOf};
 ghost use Rattle.quantized_cache.specs.Open.{opened};
-ghost use Rattle.prepare.specs.Prepare.{prepareRefusal, cacheAfter, preparedBy};
-ghost use Rattle.resident.specs.Build.{buildRefusal, codesAfter, scalesAfter, normsAfter};
+ghost use Rattle.prepare.specs.Prepare.{cacheAfter, prepared};
+ghost use Rattle.resident.specs.Build.{built, codesAfter, scalesAfter, normsAfter};
 ghost use Rattle.search_spec.specs.Lent.{answersOf, workOf, callOf, every, only};
 ghost use Rattle.search_spec.specs.Outcome.{returned};
 ghost use Rattle.search_spec.specs.Kept.{cached as cachedOutcome, resident as residentOutcome};
@@ -55,7 +54,11 @@ pub extern "C" fn pv_prepare(
     place: &mut u64,
     cache_bytes: &mut u64,
 ) -> u32
-    ensures { λ r. ⌜ (let refusal = prepareRefusal (now (manifest .entry)) «expected_crc» (length (now (scratch .entry))) (now (segments .entry)) (now (platform .entry)) (now (root .entry)) (record { «max_cache_bytes» = «max_cache_bytes»; «buffer_bytes» = «buffer_bytes» }) (length (now (cache .entry))) in (r ≡ refusal .number) × (now (place .exit) ≡ refusal .place) × (now («cache_bytes» .exit) ≡ preparedBy (now (manifest .entry)) (sizeOf (now (manifest .entry)) (now (platform .entry)) (now (root .entry))) refusal .info .«cache_bytes») × (now (cache .exit) ≡ cacheAfter (now (manifest .entry)) (now (segments .entry)) (now (platform .entry)) (now (root .entry)) refusal (now (cache .entry)))) ⌝ }
+    ensures { λ r. ⌜ (let answer = prepared (now (manifest .entry)) «expected_crc» (length (now (scratch .entry))) (now (segments .entry)) (now (platform .entry)) (now (root .entry)) (record { «max_cache_bytes» = «max_cache_bytes»; «buffer_bytes» = «buffer_bytes» }) (length (now (cache .entry))) in
+        (r ≡ answer .refusal .number)
+        × (now (place .exit) ≡ answer .refusal .place)
+        × (now («cache_bytes» .exit) ≡ answer .info .«cache_bytes»)
+        × (now (cache .exit) ≡ cacheAfter (now (manifest .entry)) (now (segments .entry)) (now (platform .entry)) (now (root .entry)) (answer .refusal) (now (cache .entry)))) ⌝ }
     ensures { λ r. ⌜ now (scratch .exit) ≡ scratchAfter (now (manifest .entry)) «expected_crc» (now (scratch .entry)) ⌝ }
 {
     let options = Options {
@@ -93,7 +96,10 @@ pub extern "C" fn pv_cache_open(
     place: &mut u64,
     cache_bytes: &mut u64,
 ) -> u32
-    ensures { λ r. ⌜ (let answer = opened (now (manifest .entry)) «expected_crc» (length (now (scratch .entry))) (now (cache .entry)) (now (platform .entry)) (now (root .entry)) (record { «max_cache_bytes» = «max_cache_bytes»; «buffer_bytes» = «buffer_bytes» }) in (r ≡ answer .refusal .number) × (now (place .exit) ≡ answer .refusal .place) × (now («cache_bytes» .exit) ≡ answer .state .cache)) ⌝ }
+    ensures { λ r. ⌜ (let answer = opened (now (manifest .entry)) «expected_crc» (length (now (scratch .entry))) (now (cache .entry)) (now (platform .entry)) (now (root .entry)) (record { «max_cache_bytes» = «max_cache_bytes»; «buffer_bytes» = «buffer_bytes» }) in
+        (r ≡ answer .refusal .number)
+        × (now (place .exit) ≡ answer .refusal .place)
+        × (now («cache_bytes» .exit) ≡ answer .state .cache)) ⌝ }
     ensures { λ r. ⌜ now (scratch .exit) ≡ scratchAfter (now (manifest .entry)) «expected_crc» (now (scratch .entry)) ⌝ }
 {
     let options = Options {
@@ -127,7 +133,12 @@ pub extern "C" fn pv_build(
     norms: &mut [i64],
     place: &mut u64,
 ) -> u32
-    ensures { λ r. ⌜ (let refusal = buildRefusal (now (manifest .entry)) «expected_crc» (length (now (scratch .entry))) (now (segments .entry)) (length (now (codes .entry))) (length (now (scales .entry))) (length (now (norms .entry))) in (r ≡ refusal .number) × (now (place .exit) ≡ refusal .place) × (now (codes .exit) ≡ codesAfter baseLevels midpoints (now (manifest .entry)) (now (segments .entry)) refusal (now (codes .entry))) × (now (scales .exit) ≡ scalesAfter baseLevels midpoints (now (manifest .entry)) (now (segments .entry)) refusal (now (scales .entry))) × (now (norms .exit) ≡ normsAfter baseLevels midpoints (now (manifest .entry)) (now (segments .entry)) refusal (now (norms .entry)))) ⌝ }
+    ensures { λ r. ⌜ (let answer = built (now (manifest .entry)) «expected_crc» (length (now (scratch .entry))) (now (segments .entry)) (length (now (codes .entry))) (length (now (scales .entry))) (length (now (norms .entry))) in
+        (r ≡ answer .refusal .number)
+        × (now (place .exit) ≡ answer .refusal .place)
+        × (now (codes .exit) ≡ codesAfter baseLevels midpoints (now (manifest .entry)) (now (segments .entry)) (answer .refusal) (now (codes .entry)))
+        × (now (scales .exit) ≡ scalesAfter baseLevels midpoints (now (manifest .entry)) (now (segments .entry)) (answer .refusal) (now (scales .entry)))
+        × (now (norms .exit) ≡ normsAfter baseLevels midpoints (now (manifest .entry)) (now (segments .entry)) (answer .refusal) (now (norms .entry)))) ⌝ }
     ensures { λ r. ⌜ now (scratch .exit) ≡ scratchAfter (now (manifest .entry)) «expected_crc» (now (scratch .entry)) ⌝ }
 {
     let built = resident::build(
@@ -197,7 +208,12 @@ pub extern "C" fn pv_search_cached(
     lengths: &mut [u32],
     out: &mut [u64; 8],
 ) -> u32
-    ensures { λ r. ⌜ (let c = callOf (now (manifest .entry)) (now (segments .entry)) every (now (query .entry)) k limit (answersOf (now (ids .entry)) (now (distances .entry)) (now (rows .entry)) (now (starts .entry)) (now (lengths .entry))) (workOf (now (keys .entry)) (now (candidates .entry)) []) in let o = cachedOutcome (cacheState (now (manifest .entry)) (now (cache .entry))) (now (cache .entry)) c in (r ≡ returned o .refusal .number) × (now (out .exit) ≡ numbersOf (returned o)) × (answersOf (now (ids .exit)) (now (distances .exit)) (now (rows .exit)) (now (starts .exit)) (now (lengths .exit)) ≡ o .answers) × (workOf (now (keys .exit)) (now (candidates .exit)) [] ≡ o .work)) ⌝ }
+    ensures { λ r. ⌜ (let c = callOf (now (manifest .entry)) (now (segments .entry)) every (now (query .entry)) k limit (answersOf (now (ids .entry)) (now (distances .entry)) (now (rows .entry)) (now (starts .entry)) (now (lengths .entry))) (workOf (now (keys .entry)) (now (candidates .entry)) []) in
+        let o = cachedOutcome (cacheState (now (manifest .entry)) (now (cache .entry))) (now (cache .entry)) c in
+        (r ≡ returned o .refusal .number)
+        × (now (out .exit) ≡ numbersOf (returned o))
+        × (answersOf (now (ids .exit)) (now (distances .exit)) (now (rows .exit)) (now (starts .exit)) (now (lengths .exit)) ≡ o .answers)
+        × (workOf (now (keys .exit)) (now (candidates .exit)) [] ≡ o .work)) ⌝ }
 {
     let state = cache_state(manifest, cache);
     let searched = search::cached(
@@ -240,7 +256,12 @@ pub extern "C" fn pv_search_cached_ids(
     lengths: &mut [u32],
     out: &mut [u64; 8],
 ) -> u32
-    ensures { λ r. ⌜ (let c = callOf (now (manifest .entry)) (now (segments .entry)) (only (now (wanted .entry))) (now (query .entry)) k limit (answersOf (now (ids .entry)) (now (distances .entry)) (now (rows .entry)) (now (starts .entry)) (now (lengths .entry))) (workOf (now (keys .entry)) (now (candidates .entry)) (now («id_work» .entry))) in let o = cachedOutcome (cacheState (now (manifest .entry)) (now (cache .entry))) (now (cache .entry)) c in (r ≡ returned o .refusal .number) × (now (out .exit) ≡ numbersOf (returned o)) × (answersOf (now (ids .exit)) (now (distances .exit)) (now (rows .exit)) (now (starts .exit)) (now (lengths .exit)) ≡ o .answers) × (workOf (now (keys .exit)) (now (candidates .exit)) (now («id_work» .exit)) ≡ o .work)) ⌝ }
+    ensures { λ r. ⌜ (let c = callOf (now (manifest .entry)) (now (segments .entry)) (only (now (wanted .entry))) (now (query .entry)) k limit (answersOf (now (ids .entry)) (now (distances .entry)) (now (rows .entry)) (now (starts .entry)) (now (lengths .entry))) (workOf (now (keys .entry)) (now (candidates .entry)) (now («id_work» .entry))) in
+        let o = cachedOutcome (cacheState (now (manifest .entry)) (now (cache .entry))) (now (cache .entry)) c in
+        (r ≡ returned o .refusal .number)
+        × (now (out .exit) ≡ numbersOf (returned o))
+        × (answersOf (now (ids .exit)) (now (distances .exit)) (now (rows .exit)) (now (starts .exit)) (now (lengths .exit)) ≡ o .answers)
+        × (workOf (now (keys .exit)) (now (candidates .exit)) (now («id_work» .exit)) ≡ o .work)) ⌝ }
 {
     let state = cache_state(manifest, cache);
     let searched = search::cached_ids(
@@ -304,7 +325,12 @@ pub extern "C" fn pv_search_resident(
     lengths: &mut [u32],
     out: &mut [u64; 8],
 ) -> u32
-    ensures { λ r. ⌜ (let c = callOf (now (manifest .entry)) (now (segments .entry)) every (now (query .entry)) k limit (answersOf (now (ids .entry)) (now (distances .entry)) (now (rows .entry)) (now (starts .entry)) (now (lengths .entry))) (workOf (now (keys .entry)) (now (candidates .entry)) []) in let o = residentOutcome (residentState (now (manifest .entry)) (length (now (codes .entry))) (length (now (scales .entry))) (length (now (norms .entry)))) (now (codes .entry)) (now (scales .entry)) (now (norms .entry)) c in (r ≡ returned o .refusal .number) × (now (out .exit) ≡ numbersOf (returned o)) × (answersOf (now (ids .exit)) (now (distances .exit)) (now (rows .exit)) (now (starts .exit)) (now (lengths .exit)) ≡ o .answers) × (workOf (now (keys .exit)) (now (candidates .exit)) [] ≡ o .work)) ⌝ }
+    ensures { λ r. ⌜ (let c = callOf (now (manifest .entry)) (now (segments .entry)) every (now (query .entry)) k limit (answersOf (now (ids .entry)) (now (distances .entry)) (now (rows .entry)) (now (starts .entry)) (now (lengths .entry))) (workOf (now (keys .entry)) (now (candidates .entry)) []) in
+        let o = residentOutcome (residentState (now (manifest .entry)) (length (now (codes .entry))) (length (now (scales .entry))) (length (now (norms .entry)))) (now (codes .entry)) (now (scales .entry)) (now (norms .entry)) c in
+        (r ≡ returned o .refusal .number)
+        × (now (out .exit) ≡ numbersOf (returned o))
+        × (answersOf (now (ids .exit)) (now (distances .exit)) (now (rows .exit)) (now (starts .exit)) (now (lengths .exit)) ≡ o .answers)
+        × (workOf (now (keys .exit)) (now (candidates .exit)) [] ≡ o .work)) ⌝ }
 {
     let state = resident_state(manifest, codes, scales, norms);
     let searched = search::resident(
@@ -351,7 +377,12 @@ pub extern "C" fn pv_search_resident_ids(
     lengths: &mut [u32],
     out: &mut [u64; 8],
 ) -> u32
-    ensures { λ r. ⌜ (let c = callOf (now (manifest .entry)) (now (segments .entry)) (only (now (wanted .entry))) (now (query .entry)) k limit (answersOf (now (ids .entry)) (now (distances .entry)) (now (rows .entry)) (now (starts .entry)) (now (lengths .entry))) (workOf (now (keys .entry)) (now (candidates .entry)) (now («id_work» .entry))) in let o = residentOutcome (residentState (now (manifest .entry)) (length (now (codes .entry))) (length (now (scales .entry))) (length (now (norms .entry)))) (now (codes .entry)) (now (scales .entry)) (now (norms .entry)) c in (r ≡ returned o .refusal .number) × (now (out .exit) ≡ numbersOf (returned o)) × (answersOf (now (ids .exit)) (now (distances .exit)) (now (rows .exit)) (now (starts .exit)) (now (lengths .exit)) ≡ o .answers) × (workOf (now (keys .exit)) (now (candidates .exit)) (now («id_work» .exit)) ≡ o .work)) ⌝ }
+    ensures { λ r. ⌜ (let c = callOf (now (manifest .entry)) (now (segments .entry)) (only (now (wanted .entry))) (now (query .entry)) k limit (answersOf (now (ids .entry)) (now (distances .entry)) (now (rows .entry)) (now (starts .entry)) (now (lengths .entry))) (workOf (now (keys .entry)) (now (candidates .entry)) (now («id_work» .entry))) in
+        let o = residentOutcome (residentState (now (manifest .entry)) (length (now (codes .entry))) (length (now (scales .entry))) (length (now (norms .entry)))) (now (codes .entry)) (now (scales .entry)) (now (norms .entry)) c in
+        (r ≡ returned o .refusal .number)
+        × (now (out .exit) ≡ numbersOf (returned o))
+        × (answersOf (now (ids .exit)) (now (distances .exit)) (now (rows .exit)) (now (starts .exit)) (now (lengths .exit)) ≡ o .answers)
+        × (workOf (now (keys .exit)) (now (candidates .exit)) (now («id_work» .exit)) ≡ o .work)) ⌝ }
 {
     let state = resident_state(manifest, codes, scales, norms);
     let searched = search::resident_ids(

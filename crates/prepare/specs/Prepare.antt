@@ -53,3 +53,10 @@ noInfo = record { generation = 0; sequence = 0; «cache_bytes» = 0; «code_byte
 
 unfoldable pub preparedBy : List ℕ → ℕ → Refusal → Prepared
 preparedBy m size refusal = record { refusal = refusal; info = unlessRefused refusal (infoOf m size) noInfo }
+
+abbrev pub preparedAccepted : List ℕ → List ℕ → List ℕ → List ℕ → Options → ℕ → Prepared
+preparedAccepted m s platform root o room = preparedBy m (sizeOf m platform root) (acceptedRefusal m s platform root o room)
+
+abbrev pub prepared : List ℕ → ℕ → ℕ → List ℕ → List ℕ → List ℕ → Options → ℕ → Prepared
+prepared m expected scratch s platform root o room =
+    preparedBy m (sizeOf m platform root) (prepareRefusal m expected scratch s platform root o room)

@@ -15,7 +15,7 @@ ghost use Rattle.manifest.specs.Check.{scratchAfter};
 ghost use Rattle.geometry.specs.Cache.{rowLength, Lent};
 ghost use Rattle.quantized_cache.specs.Size.{sizeOf};
 ghost use Rattle.rows.specs.Rows.{rowsBytes, badRow};
-ghost use Rattle.prepare.specs.Prepare.{lateRefusal, acceptedRefusal, prepareRefusal, cacheOf, cacheAfter, infoOf, preparedBy};
+ghost use Rattle.prepare.specs.Prepare.{lateRefusal, cacheOf, cacheAfter, infoOf, preparedBy, preparedAccepted, prepared};
 use config::Refusal;
 use geometry::Options;
 
@@ -59,7 +59,8 @@ fn put_crc(cache: &mut [u8], end: usize)
 }
 
 fn store_rows(m: &[u8], s: &[u8], cache: &mut [u8], at: usize)
-    requires { ⌜ (headNumber (now m) ≡ 0) × (rowsOk (now m) ≡ true) × (badRow (now m) (now s) ≡ rowsOf (now m)) × (at + rowsOf (now m) * rowLength (dimensionsOf (now m)) ≤ length (now cache)) ⌝ }
+    requires { ⌜ (headNumber (now m) ≡ 0) × (rowsOk (now m) ≡ true) × (badRow (now m) (now s) ≡ rowsOf (now m))
+        × (at + rowsOf (now m) * rowLength (dimensionsOf (now m)) ≤ length (now cache)) ⌝ }
     ensures { λ r. ⌜ now (cache .exit) ≡ paste (now (cache .entry)) at (rowsBytes baseLevels midpoints (now (m .entry)) (now (s .entry)) (rowsOf (now (m .entry)))) ⌝ }
 {
     let layout = format::read_layout(m);
@@ -72,7 +73,8 @@ fn store_rows(m: &[u8], s: &[u8], cache: &mut [u8], at: usize)
 
 // Head, rows, CRC-32.
 fn store(m: &[u8], s: &[u8], platform: &[u8], root: &[u8], cache: &mut [u8], size: usize)
-    requires { ⌜ (headNumber (now m) ≡ 0) × (rowsOk (now m) ≡ true) × (badRow (now m) (now s) ≡ rowsOf (now m)) × (size ≡ sizeOf (now m) (now platform) (now root)) × Lent (now platform) (now root) (now m) size × (size ≤ length (now cache)) ⌝ }
+    requires { ⌜ (headNumber (now m) ≡ 0) × (rowsOk (now m) ≡ true) × (badRow (now m) (now s) ≡ rowsOf (now m))
+        × (size ≡ sizeOf (now m) (now platform) (now root)) × Lent (now platform) (now root) (now m) size × (size ≤ length (now cache)) ⌝ }
     ensures { λ r. ⌜ now (cache .exit) ≡ cacheOf (now (m .entry)) (now (s .entry)) (now (platform .entry)) (now (root .entry)) ++ drop size (now (cache .entry)) ⌝ }
 {
     let at = 16 + geometry::identity_length(platform.len(), root.len(), m.len());
@@ -127,8 +129,10 @@ fn fill(
     cache: &mut [u8],
     size: usize,
 ) -> Refusal
-    requires { ⌜ (headNumber (now m) ≡ 0) × (rowsOk (now m) ≡ true) × (now keys ≡ rowKeys (now m)) × (size ≡ sizeOf (now m) (now platform) (now root)) × Lent (now platform) (now root) (now m) size ⌝ }
-    ensures { λ r. ⌜ (r ≡ lateRefusal (now (m .entry)) (now (s .entry)) size (length (now (cache .entry)))) × (now (cache .exit) ≡ cacheAfter (now (m .entry)) (now (s .entry)) (now (platform .entry)) (now (root .entry)) r (now (cache .entry))) ⌝ }
+    requires { ⌜ (headNumber (now m) ≡ 0) × (rowsOk (now m) ≡ true) × (now keys ≡ rowKeys (now m))
+        × (size ≡ sizeOf (now m) (now platform) (now root)) × Lent (now platform) (now root) (now m) size ⌝ }
+    ensures { λ r. ⌜ (r ≡ lateRefusal (now (m .entry)) (now (s .entry)) size (length (now (cache .entry))))
+        × (now (cache .exit) ≡ cacheAfter (now (m .entry)) (now (s .entry)) (now (platform .entry)) (now (root .entry)) r (now (cache .entry))) ⌝ }
 {
     let refusal = late_refusal(m, s, keys, size, cache.len());
     if refusal.number != 0 {
@@ -149,7 +153,8 @@ fn prepare_accepted(
     cache: &mut [u8],
 ) -> Prepared
     requires { ⌜ (headNumber (now m) ≡ 0) × (rowsOk (now m) ≡ true) × (now keys ≡ rowKeys (now m)) ⌝ }
-    ensures { λ r. ⌜ (let refusal = acceptedRefusal (now (m .entry)) (now (s .entry)) (now (platform .entry)) (now (root .entry)) options (length (now (cache .entry))) in (r ≡ preparedBy (now (m .entry)) (sizeOf (now (m .entry)) (now (platform .entry)) (now (root .entry))) refusal) × (now (cache .exit) ≡ cacheAfter (now (m .entry)) (now (s .entry)) (now (platform .entry)) (now (root .entry)) refusal (now (cache .entry)))) ⌝ }
+    ensures { λ r. ⌜ (r ≡ preparedAccepted (now (m .entry)) (now (s .entry)) (now (platform .entry)) (now (root .entry)) options (length (now (cache .entry))))
+        × (now (cache .exit) ≡ cacheAfter (now (m .entry)) (now (s .entry)) (now (platform .entry)) (now (root .entry)) (r .refusal) (now (cache .entry))) ⌝ }
 {
     let number = quantized_cache::sizing(m, platform, root, options);
     if number != 0 {
@@ -174,8 +179,9 @@ pub fn prepare(
     options: Options,
     cache: &mut [u8],
 ) -> Prepared
-    ensures { λ r. ⌜ (let refusal = prepareRefusal (now (manifest .entry)) «expected_crc» (length (now (scratch .entry))) (now (segments .entry)) (now (platform .entry)) (now (root .entry)) options (length (now (cache .entry))) in (r ≡ preparedBy (now (manifest .entry)) (sizeOf (now (manifest .entry)) (now (platform .entry)) (now (root .entry))) refusal) × (now (cache .exit) ≡ cacheAfter (now (manifest .entry)) (now (segments .entry)) (now (platform .entry)) (now (root .entry)) refusal (now (cache .entry)))) ⌝ }
-    ensures { λ r. ⌜ now (scratch .exit) ≡ scratchAfter (now (manifest .entry)) «expected_crc» (now (scratch .entry)) ⌝ }
+    ensures { λ r. ⌜ (r ≡ prepared (now (manifest .entry)) «expected_crc» (length (now (scratch .entry))) (now (segments .entry)) (now (platform .entry)) (now (root .entry)) options (length (now (cache .entry))))
+        × (now (cache .exit) ≡ cacheAfter (now (manifest .entry)) (now (segments .entry)) (now (platform .entry)) (now (root .entry)) (r .refusal) (now (cache .entry)))
+        × (now (scratch .exit) ≡ scratchAfter (now (manifest .entry)) «expected_crc» (now (scratch .entry))) ⌝ }
 {
     let number = manifest::accept(manifest, expected_crc, scratch);
     if number != 0 {

@@ -60,7 +60,8 @@ fn accept(
     root: &[u8],
     options: Options,
 ) -> u32
-    ensures { λ r. ⌜ (r ≡ sizeNumber (now (m .entry)) expected (length (now (scratch .entry))) (now (platform .entry)) (now (root .entry)) options) × (now (scratch .exit) ≡ scratchAfter (now (m .entry)) expected (now (scratch .entry))) ⌝ }
+    ensures { λ r. ⌜ (r ≡ sizeNumber (now (m .entry)) expected (length (now (scratch .entry))) (now (platform .entry)) (now (root .entry)) options)
+        × (now (scratch .exit) ≡ scratchAfter (now (m .entry)) expected (now (scratch .entry))) ⌝ }
 {
     let number = manifest::accept(m, expected, scratch);
     if number != 0 {
@@ -88,7 +89,8 @@ pub fn size(
     root: &[u8],
     options: Options,
 ) -> Sized
-    ensures { λ r. ⌜ (r ≡ sized (now (manifest .entry)) «expected_crc» (length (now (scratch .entry))) (now (platform .entry)) (now (root .entry)) options) × (now (scratch .exit) ≡ scratchAfter (now (manifest .entry)) «expected_crc» (now (scratch .entry))) ⌝ }
+    ensures { λ r. ⌜ (r ≡ sized (now (manifest .entry)) «expected_crc» (length (now (scratch .entry))) (now (platform .entry)) (now (root .entry)) options)
+        × (now (scratch .exit) ≡ scratchAfter (now (manifest .entry)) «expected_crc» (now (scratch .entry))) ⌝ }
 {
     let number = accept(manifest, expected_crc, scratch, platform, root, options);
     let refusal = Refusal {
@@ -184,7 +186,8 @@ fn open_number(
     root: &[u8],
     options: Options,
 ) -> u32
-    ensures { λ r. ⌜ (r ≡ openNumber (now (m .entry)) expected (length (now (scratch .entry))) (now (cache .entry)) (now (platform .entry)) (now (root .entry)) options) × (now (scratch .exit) ≡ scratchAfter (now (m .entry)) expected (now (scratch .entry))) ⌝ }
+    ensures { λ r. ⌜ (r ≡ openNumber (now (m .entry)) expected (length (now (scratch .entry))) (now (cache .entry)) (now (platform .entry)) (now (root .entry)) options)
+        × (now (scratch .exit) ≡ scratchAfter (now (m .entry)) expected (now (scratch .entry))) ⌝ }
 {
     let number = accept(m, expected, scratch, platform, root, options);
     if number != 0 {
@@ -242,7 +245,8 @@ pub fn open(
     root: &[u8],
     options: Options,
 ) -> Opened
-    ensures { λ r. ⌜ (r ≡ opened (now (manifest .entry)) «expected_crc» (length (now (scratch .entry))) (now (cache .entry)) (now (platform .entry)) (now (root .entry)) options) × (now (scratch .exit) ≡ scratchAfter (now (manifest .entry)) «expected_crc» (now (scratch .entry))) ⌝ }
+    ensures { λ r. ⌜ (r ≡ opened (now (manifest .entry)) «expected_crc» (length (now (scratch .entry))) (now (cache .entry)) (now (platform .entry)) (now (root .entry)) options)
+        × (now (scratch .exit) ≡ scratchAfter (now (manifest .entry)) «expected_crc» (now (scratch .entry))) ⌝ }
 {
     let number = open_number(
         manifest,

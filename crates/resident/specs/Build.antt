@@ -56,6 +56,12 @@ answered head refusal codes scales norms =
 abbrev pub builtBy : List ℕ → Refusal → ℕ → ℕ → ℕ → Built
 builtBy m refusal codes scales norms = answered (headAt m) refusal codes scales norms
 
+abbrev pub builtAccepted : List ℕ → List ℕ → ℕ → ℕ → ℕ → Built
+builtAccepted m s codes scales norms = builtBy m (plannedRefusal m s codes scales norms) codes scales norms
+
+abbrev pub built : List ℕ → ℕ → ℕ → List ℕ → ℕ → ℕ → ℕ → Built
+built m expected room s codes scales norms = builtBy m (buildRefusal m expected room s codes scales norms) codes scales norms
+
 -- the codes, scales and norms of the first n rows by an encoder's levels and midpoints (document 01, The arithmetic, Encoder), and what stood
 -- past them (readings R2: "Elements past the rows are neither written nor tested")
 abbrev pub codesUpto : ℕ → List Float → List ℕ → List ℕ → ℕ → List ℤ → List ℤ

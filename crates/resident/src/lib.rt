@@ -12,7 +12,7 @@ ghost use Rattle.manifest.specs.Check.{scratchAfter};
 ghost use Rattle.segment.specs.Record.{startsOf};
 ghost use Rattle.quantization.specs.Encoder.{Levels, midpointsOf, baseLevels, midpoints};
 ghost use Rattle.rows.specs.Rows.{badRow};
-ghost use Rattle.resident.specs.Build.{roomOk, roomNumber, lengthsOk, plannedRefusal, buildRefusal, answered, builtBy, codesUpto, scalesUpto, normsUpto, codesAfter, scalesAfter, normsAfter};
+ghost use Rattle.resident.specs.Build.{roomOk, roomNumber, lengthsOk, plannedRefusal, answered, builtAccepted, built, codesUpto, scalesUpto, normsUpto, codesAfter, scalesAfter, normsAfter};
 use config::Refusal;
 use format::Head;
 use format::Layout;
@@ -103,9 +103,13 @@ fn fill(
     scales: &mut [f64],
     norms: &mut [i64],
 )
-    requires { ⌜ Placed (now m) layout × (rowsOk (now m) ≡ true) × (now starts ≡ startsOf (now m)) × (now t ≡ midpoints) × (badRow (now m) (now s) ≡ rowsOf (now m)) × Levels levels ⌝ }
-    requires { ⌜ (rowsOf (now m) * dimensionsOf (now m) ≤ length (now codes)) × (rowsOf (now m) ≤ length (now scales)) × (rowsOf (now m) ≤ length (now norms)) ⌝ }
-    ensures { λ r. ⌜ (now (codes .exit) ≡ codesUpto levels (midpointsOf levels) (now (m .entry)) (now (s .entry)) (rowsOf (now (m .entry))) (now (codes .entry))) × (now (scales .exit) ≡ scalesUpto levels (midpointsOf levels) (now (m .entry)) (now (s .entry)) (rowsOf (now (m .entry))) (now (scales .entry))) × (now (norms .exit) ≡ normsUpto levels (midpointsOf levels) (now (m .entry)) (now (s .entry)) (rowsOf (now (m .entry))) (now (norms .entry))) ⌝ }
+    requires { ⌜ Placed (now m) layout × (rowsOk (now m) ≡ true) × (now starts ≡ startsOf (now m)) × (now t ≡ midpoints)
+        × (badRow (now m) (now s) ≡ rowsOf (now m)) × Levels levels ⌝ }
+    requires { ⌜ (rowsOf (now m) * dimensionsOf (now m) ≤ length (now codes)) × (rowsOf (now m) ≤ length (now scales))
+        × (rowsOf (now m) ≤ length (now norms)) ⌝ }
+    ensures { λ r. ⌜ (now (codes .exit) ≡ codesUpto levels (midpointsOf levels) (now (m .entry)) (now (s .entry)) (rowsOf (now (m .entry))) (now (codes .entry)))
+        × (now (scales .exit) ≡ scalesUpto levels (midpointsOf levels) (now (m .entry)) (now (s .entry)) (rowsOf (now (m .entry))) (now (scales .entry)))
+        × (now (norms .exit) ≡ normsUpto levels (midpointsOf levels) (now (m .entry)) (now (s .entry)) (rowsOf (now (m .entry))) (now (norms .entry))) ⌝ }
 {
     let mut row = 0;
     while row < layout.rows {
@@ -124,8 +128,11 @@ fn fill(
 // All rows, of an accepted manifest and good records.
 fn store(levels: u32, m: &[u8], s: &[u8], codes: &mut [i8], scales: &mut [f64], norms: &mut [i64])
     requires { ⌜ (headNumber (now m) ≡ 0) × (rowsOk (now m) ≡ true) × (badRow (now m) (now s) ≡ rowsOf (now m)) × Levels levels ⌝ }
-    requires { ⌜ (rowsOf (now m) * dimensionsOf (now m) ≤ length (now codes)) × (rowsOf (now m) ≤ length (now scales)) × (rowsOf (now m) ≤ length (now norms)) ⌝ }
-    ensures { λ r. ⌜ (now (codes .exit) ≡ codesUpto levels (midpointsOf levels) (now (m .entry)) (now (s .entry)) (rowsOf (now (m .entry))) (now (codes .entry))) × (now (scales .exit) ≡ scalesUpto levels (midpointsOf levels) (now (m .entry)) (now (s .entry)) (rowsOf (now (m .entry))) (now (scales .entry))) × (now (norms .exit) ≡ normsUpto levels (midpointsOf levels) (now (m .entry)) (now (s .entry)) (rowsOf (now (m .entry))) (now (norms .entry))) ⌝ }
+    requires { ⌜ (rowsOf (now m) * dimensionsOf (now m) ≤ length (now codes)) × (rowsOf (now m) ≤ length (now scales))
+        × (rowsOf (now m) ≤ length (now norms)) ⌝ }
+    ensures { λ r. ⌜ (now (codes .exit) ≡ codesUpto levels (midpointsOf levels) (now (m .entry)) (now (s .entry)) (rowsOf (now (m .entry))) (now (codes .entry)))
+        × (now (scales .exit) ≡ scalesUpto levels (midpointsOf levels) (now (m .entry)) (now (s .entry)) (rowsOf (now (m .entry))) (now (scales .entry)))
+        × (now (norms .exit) ≡ normsUpto levels (midpointsOf levels) (now (m .entry)) (now (s .entry)) (rowsOf (now (m .entry))) (now (norms .entry))) ⌝ }
 {
     let layout = format::read_layout(m);
     let starts = segment::starts(m, layout);
@@ -170,7 +177,10 @@ fn build_accepted(
     norms: &mut [i64],
 ) -> Built
     requires { ⌜ (headNumber (now m) ≡ 0) × (rowsOk (now m) ≡ true) × (now keys ≡ rowKeys (now m)) ⌝ }
-    ensures { λ r. ⌜ (let refusal = plannedRefusal (now (m .entry)) (now (s .entry)) (length (now (codes .entry))) (length (now (scales .entry))) (length (now (norms .entry))) in (r ≡ builtBy (now (m .entry)) refusal (length (now (codes .entry))) (length (now (scales .entry))) (length (now (norms .entry)))) × (now (codes .exit) ≡ codesAfter baseLevels midpoints (now (m .entry)) (now (s .entry)) refusal (now (codes .entry))) × (now (scales .exit) ≡ scalesAfter baseLevels midpoints (now (m .entry)) (now (s .entry)) refusal (now (scales .entry))) × (now (norms .exit) ≡ normsAfter baseLevels midpoints (now (m .entry)) (now (s .entry)) refusal (now (norms .entry)))) ⌝ }
+    ensures { λ r. ⌜ (r ≡ builtAccepted (now (m .entry)) (now (s .entry)) (length (now (codes .entry))) (length (now (scales .entry))) (length (now (norms .entry))))
+        × (now (codes .exit) ≡ codesAfter baseLevels midpoints (now (m .entry)) (now (s .entry)) (r .refusal) (now (codes .entry)))
+        × (now (scales .exit) ≡ scalesAfter baseLevels midpoints (now (m .entry)) (now (s .entry)) (r .refusal) (now (scales .entry)))
+        × (now (norms .exit) ≡ normsAfter baseLevels midpoints (now (m .entry)) (now (s .entry)) (r .refusal) (now (norms .entry))) ⌝ }
 {
     let head = format::read_head(m);
     let refusal = plan(m, s, keys, codes.len(), scales.len(), norms.len());
@@ -190,7 +200,11 @@ pub fn build(
     scales: &mut [f64],
     norms: &mut [i64],
 ) -> Built
-    ensures { λ r. ⌜ (let refusal = buildRefusal (now (manifest .entry)) «expected_crc» (length (now (scratch .entry))) (now (segments .entry)) (length (now (codes .entry))) (length (now (scales .entry))) (length (now (norms .entry))) in (r ≡ builtBy (now (manifest .entry)) refusal (length (now (codes .entry))) (length (now (scales .entry))) (length (now (norms .entry)))) × (now (scratch .exit) ≡ scratchAfter (now (manifest .entry)) «expected_crc» (now (scratch .entry))) × (now (codes .exit) ≡ codesAfter baseLevels midpoints (now (manifest .entry)) (now (segments .entry)) refusal (now (codes .entry))) × (now (scales .exit) ≡ scalesAfter baseLevels midpoints (now (manifest .entry)) (now (segments .entry)) refusal (now (scales .entry))) × (now (norms .exit) ≡ normsAfter baseLevels midpoints (now (manifest .entry)) (now (segments .entry)) refusal (now (norms .entry)))) ⌝ }
+    ensures { λ r. ⌜ (r ≡ built (now (manifest .entry)) «expected_crc» (length (now (scratch .entry))) (now (segments .entry)) (length (now (codes .entry))) (length (now (scales .entry))) (length (now (norms .entry))))
+        × (now (scratch .exit) ≡ scratchAfter (now (manifest .entry)) «expected_crc» (now (scratch .entry)))
+        × (now (codes .exit) ≡ codesAfter baseLevels midpoints (now (manifest .entry)) (now (segments .entry)) (r .refusal) (now (codes .entry)))
+        × (now (scales .exit) ≡ scalesAfter baseLevels midpoints (now (manifest .entry)) (now (segments .entry)) (r .refusal) (now (scales .entry)))
+        × (now (norms .exit) ≡ normsAfter baseLevels midpoints (now (manifest .entry)) (now (segments .entry)) (r .refusal) (now (norms .entry))) ⌝ }
 {
     let number = manifest::accept(manifest, expected_crc, scratch);
     if number != 0 {

@@ -40,7 +40,8 @@ fn lowest_bad(
     s: &[u8],
     keys: &[u64],
 ) -> usize
-    requires { ⌜ Placed (now m) layout × (metric ≡ metricAt (now m)) × (rowsOk (now m) ≡ true) × (now starts ≡ startsOf (now m)) × (now keys ≡ rowKeys (now m)) ⌝ }
+    requires { ⌜ Placed (now m) layout × (metric ≡ metricAt (now m)) × (rowsOk (now m) ≡ true) × (now starts ≡ startsOf (now m))
+        × (now keys ≡ rowKeys (now m)) ⌝ }
     ensures { λ r. ⌜ r ≡ badRow (now (m .entry)) (now (s .entry)) ⌝ }
 {
     let first = segment::bad_record(m, layout, metric, starts, s, keys);
@@ -85,7 +86,8 @@ fn put_row(
     part: &mut [u8],
     row: usize,
 )
-    requires { ⌜ Placed (now m) layout × (rowsOk (now m) ≡ true) × (now starts ≡ startsOf (now m)) × (now t ≡ midpoints) × Levels levels × (row < layout .rows) × (recordOk (now m) (now s) row ≡ true) × (length (now part) ≡ dimensionsOf (now m) + 16) ⌝ }
+    requires { ⌜ Placed (now m) layout × (rowsOk (now m) ≡ true) × (now starts ≡ startsOf (now m)) × (now t ≡ midpoints) × Levels levels
+        × (row < layout .rows) × (recordOk (now m) (now s) row ≡ true) × (length (now part) ≡ dimensionsOf (now m) + 16) ⌝ }
     ensures { λ r. ⌜ now (part .exit) ≡ rowBytes (rowOf levels (midpointsOf levels) (now (m .entry)) (now (s .entry)) row) ⌝ }
 {
     let at = segment::record_at(m, layout, starts, row);
@@ -104,7 +106,8 @@ pub fn put_rows(
     at: usize,
     size: usize,
 )
-    requires { ⌜ Placed (now m) layout × (rowsOk (now m) ≡ true) × (now starts ≡ startsOf (now m)) × (now t ≡ midpoints) × Levels levels × (badRow (now m) (now s) ≡ rowsOf (now m)) × (size ≡ dimensionsOf (now m) + 16) × (at + rowsOf (now m) * size ≤ length (now cache)) ⌝ }
+    requires { ⌜ Placed (now m) layout × (rowsOk (now m) ≡ true) × (now starts ≡ startsOf (now m)) × (now t ≡ midpoints) × Levels levels
+        × (badRow (now m) (now s) ≡ rowsOf (now m)) × (size ≡ dimensionsOf (now m) + 16) × (at + rowsOf (now m) * size ≤ length (now cache)) ⌝ }
     ensures { λ r. ⌜ now (cache .exit) ≡ paste (now (cache .entry)) at (rowsBytes levels (midpointsOf levels) (now (m .entry)) (now (s .entry)) (rowsOf (now (m .entry)))) ⌝ }
 {
     let mut from = at;

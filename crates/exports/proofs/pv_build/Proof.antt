@@ -9,7 +9,8 @@ returns : tie.Need-returns
 unfolding answered
 returns c =
     let e = c .before .before .before .before .before .before .before .build .ensures in
-    ((ap (λ k. k .refusal .number) (e .0), ap (λ k. k .refusal .place) (e .0), e .2, e .3, e .4), e .1)
+    let f = e .0 in
+    ((ap (λ k. k .refusal .number) f, ap (λ k. k .refusal .place) f, rw f at (e .2), rw f at (e .3), rw f at (e .4)), e .1)
 
 pub pv-build-spec : {M : Type 1} → statement M
 pv-build-spec =

@@ -9,7 +9,8 @@ returns : tie.Need-returns
 unfolding preparedBy
 returns c =
     let e = c .before .before .before .before .before .before .prepare .ensures in
-    ((ap (λ k. k .refusal .number) (e .0 .0), ap (λ k. k .refusal .place) (e .0 .0), ap (λ k. k .info .«cache_bytes») (e .0 .0), e .0 .1), e .1)
+    let f = e .0 in
+    ((ap (λ k. k .refusal .number) f, ap (λ k. k .refusal .place) f, ap (λ k. k .info .«cache_bytes») f, rw f at (e .1)), e .2)
 
 pub pv-prepare-spec : {M : Type 1} → statement M
 pv-prepare-spec = tie.close (tie.spec (λ c κs. search needs) (λ c. search needs) (λ c. search needs) returns)

@@ -8,6 +8,7 @@ use Rattle.manifest.specs.Check.{manifestNumber}
 use Rattle.manifest.proofs.Passed.{Planned, accepted, cleared, left, held-rows}
 use Rattle.quantized_cache.specs.Size.{sizeOf}
 use Rattle.prepare.specs.Prepare.{cacheAfter, preparedBy}
+use Rattle.prepare.specs.declared.Prepared.{Prepared}
 use Rattle.prepare.proofs.Stored.{refused-manifest, accepted-manifest, refused-answer, refused-cache}
 use Rattle.prepare.proofs.prepare.Statement.{statement}
 use Rattle.prepare.proofs.prepare.Tie as tie
@@ -20,6 +21,7 @@ passed : (c : tie.Else1) → let b = c .before .before .before .before .before .
 passed c = let b = c .before .before .before .before .before .before .before .before .before .before .before in accepted (b .args .manifest .now) (b .args .expected-crc) (length (b .args .scratch .now)) (number c) .0
 
 returns : tie.Need-returns
+unfolding preparedBy
 returns c =
     let b = c .before .before .before .before .before .before .before .before .before .before .before .before in
     let m = b .args .manifest .now in
@@ -29,7 +31,8 @@ returns c =
     let a = c .before .before .before .before .accept .ensures in
     let h : n ≡ 0 → ⊥ = rw (a .0) at (c .before .if1 .taken) in
     let e = sym (refused-manifest m (b .args .expected-crc) (length (b .args .scratch .now)) (b .args .segments .now) (b .args .platform .now) (b .args .root .now) (b .args .options) (length d) h) in
-    ((c .answer .ensures ∙ ap (λ k. preparedBy m 0 (refused k 0)) (a .0) ∙ refused-answer m 0 z n h ∙ ap (preparedBy m z) e, refused-cache m (b .args .segments .now) (b .args .platform .now) (b .args .root .now) d n h ∙ ap (λ (r : Refusal). cacheAfter m (b .args .segments .now) (b .args .platform .now) (b .args .root .now) r d) e), a .1 ∙ left m (b .args .expected-crc) (b .args .scratch .now) h)
+    let r = c .answer .ensures ∙ ap (λ k. preparedBy m 0 (refused k 0)) (a .0) ∙ refused-answer m 0 z n h ∙ ap (preparedBy m z) e in
+    (r, rw (ap (λ (x : Prepared). x .refusal) r) (refused-cache m (b .args .segments .now) (b .args .platform .now) (b .args .root .now) d n h ∙ ap (λ (r : Refusal). cacheAfter m (b .args .segments .now) (b .args .platform .now) (b .args .root .now) r d) e), a .1 ∙ left m (b .args .expected-crc) (b .args .scratch .now) h)
 
 asked : tie.Need-prepare-accepted-requires
 asked c κs =
@@ -47,7 +50,7 @@ returns-2 c =
     let f = c .before .before .before .before .before .before .prepare-accepted .ensures in
     let z = sizeOf m (b .args .platform .now) (b .args .root .now) in
     let e = sym (accepted-manifest m (b .args .expected-crc) (length t) (b .args .segments .now) (b .args .platform .now) (b .args .root .now) (b .args .options) (length (b .args .cache .now)) (number d)) in
-    ((f .0 ∙ ap (preparedBy m z) e, f .1 ∙ ap (λ (r : Refusal). cacheAfter m (b .args .segments .now) (b .args .platform .now) (b .args .root .now) r (b .args .cache .now)) e), c .before .before .clear .ensures ∙ ap (λ n. replicate n 0) (d .before .before .before .accept .kept .1 .1 .0) ∙ cleared m (b .args .expected-crc) t (number d))
+    (f .0 ∙ ap (preparedBy m z) e, f .1, c .before .before .clear .ensures ∙ ap (λ n. replicate n 0) (d .before .before .before .accept .kept .1 .1 .0) ∙ cleared m (b .args .expected-crc) t (number d))
 
 pub prepare-spec : {M : Type 1} → statement M
 prepare-spec =

@@ -11,6 +11,7 @@ use Rattle.manifest.specs.Check.{manifestNumber}
 use Rattle.manifest.proofs.Passed.{Planned, accepted, cleared, left, held-rows}
 use Rattle.quantization.specs.Encoder.{baseLevels, midpoints}
 use Rattle.resident.specs.Build.{buildRefusal, answered, codesUpto, scalesUpto, normsUpto}
+use Rattle.resident.specs.declared.Built.{Built}
 use Rattle.resident.proofs.Answers.{answered-refused, refused-first, refused-next}
 use Rattle.resident.proofs.build.Statement.{statement}
 use Rattle.resident.proofs.build.Tie as tie
@@ -23,6 +24,7 @@ passed : (c : tie.Else1) → let b = c .before .before .before .before .before .
 passed c = let b = c .before .before .before .before .before .before .before .before .before in accepted (b .args .manifest .now) (b .args .expected-crc) (length (b .args .scratch .now)) (number c) .0
 
 returns : tie.Need-returns
+unfolding answered
 returns c =
     let b = c .before .before .before .before .before .before .before .before .before .before .before in
     let m = b .args .manifest .now in
@@ -36,12 +38,14 @@ returns c =
     let a = c .before .before .before .before .before .accept .ensures in
     let h : manifestNumber m x (length t) ≡ 0 → ⊥ = rw (a .0) at (c .before .before .if1 .taken) in
     let e = ap (λ i. refused i 0) (a .0) ∙ refused-first m x (length t) s k l n h in
-    let o : R .number ≡ 0 → ⊥ = λ z. h (ap (λ (f : Refusal). f .number) (refused-first m x (length t) s k l n h) ∙ z) in (
-      c .answer .ensures ∙ ap (λ (f : Refusal). answered (c .before .zero-head .result) f k l n) e ∙ answered-refused (c .before .zero-head .result) (headAt m) R k l n o,
+    let o : R .number ≡ 0 → ⊥ = λ z. h (ap (λ (f : Refusal). f .number) (refused-first m x (length t) s k l n h) ∙ z) in
+    let r = c .answer .ensures ∙ ap (λ (f : Refusal). answered (c .before .zero-head .result) f k l n) e ∙ answered-refused (c .before .zero-head .result) (headAt m) R k l n o in
+    let w = ap (λ (x : Built). x .refusal) r in (
+      r,
       a .1 ∙ left m x t h,
-      sym (is-other R (codesUpto baseLevels midpoints m s (rowsOf m) (b .args .codes .now)) (b .args .codes .now) o),
-      sym (is-other R (scalesUpto baseLevels midpoints m s (rowsOf m) (b .args .scales .now)) (b .args .scales .now) o),
-      sym (is-other R (normsUpto baseLevels midpoints m s (rowsOf m) (b .args .norms .now)) (b .args .norms .now) o),
+      rw w (sym (is-other R (codesUpto baseLevels midpoints m s (rowsOf m) (b .args .codes .now)) (b .args .codes .now) o)),
+      rw w (sym (is-other R (scalesUpto baseLevels midpoints m s (rowsOf m) (b .args .scales .now)) (b .args .scales .now) o)),
+      rw w (sym (is-other R (normsUpto baseLevels midpoints m s (rowsOf m) (b .args .norms .now)) (b .args .norms .now) o)),
     )
 
 asked : tie.Need-build-accepted-requires
@@ -59,7 +63,7 @@ returns-2 c =
     let t = b .args .scratch .now in
     let f = c .before .before .before .before .before .before .before .before .build-accepted .ensures in
     let e = refused-next m (b .args .expected-crc) (length t) (b .args .segments .now) (length (b .args .codes .now)) (length (b .args .scales .now)) (length (b .args .norms .now)) (number d) in
-    rw (← e) (f .0, c .before .before .clear .ensures ∙ ap (λ n. replicate n 0) (d .before .before .before .accept .kept .1 .1 .0) ∙ cleared m (b .args .expected-crc) t (number d), f .1, f .2, f .3)
+    (rw (← e) (f .0), c .before .before .clear .ensures ∙ ap (λ n. replicate n 0) (d .before .before .before .accept .kept .1 .1 .0) ∙ cleared m (b .args .expected-crc) t (number d), f .1, f .2, f .3)
 
 pub build-spec : {M : Type 1} → statement M
 build-spec =

@@ -1,27 +1,30 @@
 use borrow.Author.Needs.{needs}
-use mathlib.Core.Path.{_≡_, sym, _∙_}
+use mathlib.Core.Path.{_≡_, sym, ap, _∙_}
 use lib.ListN.{length}
 use Rattle.config.proofs.Refusals.{is-done, is-other}
 use Rattle.format.specs.Fields.{dimensionsOf, rowsOf}
 use Rattle.quantization.specs.Encoder.{baseLevels, midpoints}
 use Rattle.quantization.proofs.Encoded.{base}
-use Rattle.resident.specs.Build.{plannedRefusal, codesUpto, scalesUpto, normsUpto}
+use Rattle.resident.specs.Build.{plannedRefusal, answered, codesUpto, scalesUpto, normsUpto}
+use Rattle.resident.specs.declared.Built.{Built}
 use Rattle.resident.proofs.Answers.{planned-none, room-is}
 use Rattle.resident.proofs.build_accepted.Statement.{statement}
 use Rattle.resident.proofs.build_accepted.Tie as tie
 
 returns : tie.Need-returns
+unfolding answered
 returns c =
     let b = c .before .before .before .before .before .before .before .before .before in
     let m = b .args .m .now in
     let s = b .args .s .now in
     let e = c .before .before .before .plan .ensures in
     let R = plannedRefusal m s (length (b .args .codes .now)) (length (b .args .scales .now)) (length (b .args .norms .now)) in
-    let o : R .number ≡ 0 → ⊥ = rw e at (c .before .if1 .taken) in (
+    let o : R .number ≡ 0 → ⊥ = rw e at (c .before .if1 .taken) in
+    let w = ap (λ (x : Built). x .refusal) (c .answer .ensures) ∙ e in (
       c .answer .ensures ∙ rw (e, c .before .before .before .before .read-head .ensures),
-      sym (is-other R (codesUpto baseLevels midpoints m s (rowsOf m) (b .args .codes .now)) (b .args .codes .now) o),
-      sym (is-other R (scalesUpto baseLevels midpoints m s (rowsOf m) (b .args .scales .now)) (b .args .scales .now) o),
-      sym (is-other R (normsUpto baseLevels midpoints m s (rowsOf m) (b .args .norms .now)) (b .args .norms .now) o),
+      rw w (sym (is-other R (codesUpto baseLevels midpoints m s (rowsOf m) (b .args .codes .now)) (b .args .codes .now) o)),
+      rw w (sym (is-other R (scalesUpto baseLevels midpoints m s (rowsOf m) (b .args .scales .now)) (b .args .scales .now) o)),
+      rw w (sym (is-other R (normsUpto baseLevels midpoints m s (rowsOf m) (b .args .norms .now)) (b .args .norms .now) o)),
     )
 
 asked : tie.Need-store-requires
@@ -31,6 +34,7 @@ asked c κs =
     ((b .pre .0, b .pre .1, w .0, base), room-is (rowsOf (b .args .m .now)) (dimensionsOf (b .args .m .now)) (length (b .args .codes .now)) (length (b .args .scales .now)) (length (b .args .norms .now)) (w .1))
 
 returns-2 : tie.Need-returns-2
+unfolding answered
 returns-2 c =
     let t = c .before .before .before .before .before .store in
     let b = c .before .before .before .before .before .before .before .before .before .before .before .before .before .before .before .before .before in
@@ -38,11 +42,12 @@ returns-2 c =
     let s = b .args .s .now in
     let e = c .before .before .before .before .before .before .before .before .before .before .before .plan .ensures in
     let R = plannedRefusal m s (length (b .args .codes .now)) (length (b .args .scales .now)) (length (b .args .norms .now)) in
-    let o : R .number ≡ 0 = rw e at (c .before .before .before .before .before .before .before .before .before .if1 .left) in (
+    let o : R .number ≡ 0 = rw e at (c .before .before .before .before .before .before .before .before .before .if1 .left) in
+    let w = ap (λ (x : Built). x .refusal) (c .answer2 .ensures) ∙ e in (
       c .answer2 .ensures ∙ rw (e, c .before .before .before .before .before .before .before .before .before .before .before .before .read-head .ensures, t .kept .1 .1 .1 .0, t .kept .1 .1 .1 .1 .0, t .kept .1 .1 .1 .1 .1 .0),
-      t .ensures .0 ∙ sym (is-done R (codesUpto baseLevels midpoints m s (rowsOf m) (b .args .codes .now)) (b .args .codes .now) o),
-      t .ensures .1 ∙ sym (is-done R (scalesUpto baseLevels midpoints m s (rowsOf m) (b .args .scales .now)) (b .args .scales .now) o),
-      t .ensures .2 ∙ sym (is-done R (normsUpto baseLevels midpoints m s (rowsOf m) (b .args .norms .now)) (b .args .norms .now) o),
+      rw w (t .ensures .0 ∙ sym (is-done R (codesUpto baseLevels midpoints m s (rowsOf m) (b .args .codes .now)) (b .args .codes .now) o)),
+      rw w (t .ensures .1 ∙ sym (is-done R (scalesUpto baseLevels midpoints m s (rowsOf m) (b .args .scales .now)) (b .args .scales .now) o)),
+      rw w (t .ensures .2 ∙ sym (is-done R (normsUpto baseLevels midpoints m s (rowsOf m) (b .args .norms .now)) (b .args .norms .now) o)),
     )
 
 pub build-accepted-spec : {M : Type 1} → statement M
