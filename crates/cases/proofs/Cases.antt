@@ -15,7 +15,7 @@ use Rattle.config.specs.declared.Metric.the-variants.{SquaredL2}
 use Rattle.codes.specs.Codes.{dot, squares, within}
 use Rattle.quantization.specs.View.{validRow}
 use Rattle.quantization.specs.Encoder.{baseLevels, largest, largestFrom, scaleBy, notAbove, codeOf, encode, midpoints, midpointsOf}
-use Rattle.geometry.specs.Sizing.{sizingNumber}
+use Rattle.geometry.specs.Sizing.{boundsNumber, limitsNumber, sizingNumber}
 use Rattle.math.specs.Sums.{fold2}
 use Rattle.math.specs.Distance.{inverse, finished, original}
 use Rattle.row.specs.Distance.{squaredL2, innerProduct, cosineBy, distanceOf, approximate}
@@ -55,7 +55,7 @@ unfolding rowAnswer answer measured approximate distanceOf squaredL2 maxZero add
 over place n cs h = rw (h, zero-query n, zero-dot cs n)
 
 pub cases : Cases
-unfolding encode scaleBy largestFrom codeOf notAbove midpointsOf squares dot within validRow original finished inverse fold2 approximate distanceOf squaredL2 innerProduct cosineBy maxZero clamp sqrtOf ofBits add sub mul div neg lt le eq ofInt sizingNumber
+unfolding encode scaleBy largestFrom codeOf notAbove midpointsOf squares dot within validRow original finished inverse fold2 approximate distanceOf squaredL2 innerProduct cosineBy maxZero clamp sqrtOf ofBits add sub mul div neg lt le eq ofInt sizingNumber boundsNumber limitsNumber
 cases = record {
   a = refl;
   b = refl;

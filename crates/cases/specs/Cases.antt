@@ -61,7 +61,7 @@ pub record Cases : Type 0 where
   -- "Platform `linux`, root `/s`, one-byte model, one segment, two rows of 3: identity 121, cache 179. Limit 187 passes, 186 gives 9;
   -- block 19 passes, 18 gives 7"; the manifest is 65 bytes, the model, 12 a segment and 20 a row long
   pub h-identity : identityLength 5 2 (65 + 1 + 12 * 1 + 20 * 2) ≡ 121
-  pub h-cache : cacheSize 121 2 3 ≡ 179
+  pub h-cache : cacheSize 121 0 2 3 ≡ 179
   pub h-passes : sizingNumber 5 2 187 19 118 2 3 ≡ 0
   pub h-limit : sizingNumber 5 2 186 19 118 2 3 ≡ 9
   pub h-block : sizingNumber 5 2 187 18 118 2 3 ≡ 7

@@ -1,4 +1,4 @@
--- The first of n that is refused. Assumes nothing.
+-- The first of n that is refused, and one table's number before another's. Assumes nothing.
 use mathlib.Core.Path.{_≡_, refl, sym, ap, _∙_}
 use mathlib.Core.Bool.{Bool, true≢false}
 use Prim.Native.Nat.{ℕ, zero, suc, _+_, _≤_, _<_}
@@ -8,7 +8,7 @@ use borrow.Author.Tests.{eqb-true, eqb-false, eq-eqb, ne-eqb}
 use Rattle.le.proofs.Chain.{by}
 use Rattle.config.specs.Refusal.{none, thenRefusal}
 use Rattle.config.specs.declared.Refusal.{Refusal}
-use Rattle.format.specs.Order.{firstFrom, firstBad, firstRefusal}
+use Rattle.format.specs.Order.{orElse, firstFrom, firstBad, firstRefusal}
 use Rattle.format.proofs.First.{Reached, reached-stop, reached-end, each-passes, all-pass, first-within, first-fails}
 
 -- i is not refused
@@ -69,3 +69,13 @@ first-cons f n =
     (by (eqb b n) (λ e. rw (e, eq-eqb (suc b) (suc n) (ap suc (eqb-true b n e))))
     (λ e. rw (e, ne-eqb (suc b) (suc n) (λ g. eqb-false b n e (let h : b ≡ n = omega (arith, g) in h))))))
     (λ p. rw (p, ne-eqb 0 (suc n) (λ g. absurd (omega (arith, g)))))
+
+-- ---- one table before the other: both pass
+pub or-else : (a b : ℕ) → orElse a b ≡ 0 → (a ≡ 0) × (b ≡ 0)
+or-else a b h =
+    by (eqb a 0) (λ e. (eqb-true a 0 e, rw e at h))
+    (λ e. let f : a ≡ 0 = rw e at h in (f, absurd (eqb-false a 0 e f)))
+
+-- and neither has a number
+pub or-else-not : (a b n : ℕ) → (a ≡ n → ⊥) → (b ≡ n → ⊥) → orElse a b ≡ n → ⊥
+or-else-not a b n f g h = by (eqb a 0) (λ e. g (rw e at h)) (λ e. f (rw e at h))

@@ -15,7 +15,7 @@ use Rattle.le.proofs.LeLaws.{AllBytes, le-bytes-all, length-bytes}
 use Rattle.le.proofs.Pastes.{paste-next}
 use Rattle.format.specs.Same.{sameBytes}
 use Rattle.format.proofs.Same.{bytes-eq, bytes-refl, bytes-in}
-use Rattle.geometry.specs.Cache.{counted, inner, identity, identityLength, cacheHead, cacheBytes, cacheMagic}
+use Rattle.geometry.specs.Cache.{counted, inner, identity, identityLength, headRest, cacheHead, cacheBytes, cacheMagic}
 
 -- ---- lengths
 
@@ -35,13 +35,13 @@ pub length-identity : (platform root m : List ℕ) → 12 ≤ length m
 unfolding identity
 length-identity platform root m h = rw (length-append, length-append, length-counted platform, length-counted root, length-inner m h)
 
-pub length-head : (version : ℕ) (i : List ℕ) → length (cacheHead version i) ≡ 16 + length i
-unfolding cacheHead
-length-head version i = simp (length-append, length-bytes, length-counted) (omega arith)
+pub length-head : (version : ℕ) (i between : List ℕ) → length (cacheHead version i between) ≡ 16 + length i + length between
+unfolding cacheHead headRest
+length-head version i between = simp (length-append, length-bytes, length-counted) (omega arith)
 
-pub length-cache : (version : ℕ) (i rows : List ℕ) → length (cacheBytes version i rows) ≡ length i + 20 + length rows
+pub length-cache : (version : ℕ) (i between rows : List ℕ) → length (cacheBytes version i between rows) ≡ length i + 20 + length between + length rows
 unfolding cacheBytes
-length-cache version i rows = simp (length-append, length-bytes, length-head) (omega arith)
+length-cache version i between rows = simp (length-append, length-bytes, length-head) (omega arith)
 
 -- ---- storing, as the code does it
 
@@ -63,20 +63,25 @@ pub magic-bytes : bytes 8 0x3130_3851_5343_4556 ≡ cacheMagic
 unfolding bytes
 magic-bytes = refl
 
-pub head-stored : (d : List ℕ) (version : ℕ) (i : List ℕ) → 16 + length i ≤ length d
-    → paste (paste (paste (paste d 0 cacheMagic) 8 (bytes 4 version)) 12 (bytes 4 (length i))) 16 i ≡ paste d 0 (cacheHead version i)
-unfolding cacheHead counted
-head-stored d version i h =
+pub rest-stored : (d : List ℕ) (version : ℕ) (i between : List ℕ) → 16 + length i + length between ≤ length d
+    → paste (paste (paste (paste d 8 (bytes 4 version)) 12 (bytes 4 (length i))) 16 i) (16 + length i) between ≡ paste d 8 (headRest version i between)
+unfolding headRest counted
+rest-stored d version i between h =
     let v = length-bytes 4 version in
     let n = length-bytes 4 (length i) in
-    let a = length-append cacheMagic (bytes 4 version) in
-    let b = length-append (cacheMagic ++ bytes 4 version) (bytes 4 (length i)) in
+    let a = length-append (bytes 4 version) (bytes 4 (length i)) in
+    let b = length-append (bytes 4 version ++ bytes 4 (length i)) i in
     rw (
-      paste-next d 0 cacheMagic (bytes 4 version) 8 refl (omega arith),
-      paste-next d 0 (cacheMagic ++ bytes 4 version) (bytes 4 (length i)) 12 (omega arith) (omega arith),
-      paste-next d 0 (cacheMagic ++ bytes 4 version ++ bytes 4 (length i)) i 16 (omega arith) (omega arith),
-      append-assoc (cacheMagic ++ bytes 4 version) (bytes 4 (length i)) i,
+      paste-next d 8 (bytes 4 version) (bytes 4 (length i)) 12 (omega arith) (omega arith),
+      paste-next d 8 (bytes 4 version ++ bytes 4 (length i)) i 16 (omega arith) (omega arith),
+      paste-next d 8 (bytes 4 version ++ bytes 4 (length i) ++ i) between (16 + length i) (omega arith) (omega arith),
+      append-assoc (bytes 4 version) (bytes 4 (length i)) i,
     )
+
+pub head-stored : (d : List ℕ) (version : ℕ) (i between : List ℕ) → 16 + length i + length between ≤ length d
+    → paste (paste d 0 cacheMagic) 8 (headRest version i between) ≡ paste d 0 (cacheHead version i between)
+unfolding cacheHead
+head-stored d version i between h = paste-next d 0 cacheMagic (headRest version i between) 8 refl (omega arith)
 
 -- ---- comparing
 

@@ -26,29 +26,36 @@ identity platform root m = counted platform ++ counted root ++ inner m
 abbrev pub identityLength : ℕ → ℕ → ℕ → ℕ
 identityLength platform root m = 4 + platform + (4 + root) + (m - 12)
 
--- the version of the base
+-- the version of the base, and its bytes between identity and rows: none
 abbrev pub cacheVersion : ℕ
 cacheVersion = 1
 
--- what stands before the rows, for a version of the cache
-unfoldable pub cacheHead : ℕ → List ℕ → List ℕ
-cacheHead version i = cacheMagic ++ bytes 4 version ++ counted i
+abbrev pub cacheBetween : List ℕ
+cacheBetween = []
+
+-- what stands between the magic and the rows, for a version of the cache and its bytes between identity and rows
+unfoldable pub headRest : ℕ → List ℕ → List ℕ → List ℕ
+headRest version i between = bytes 4 version ++ counted i ++ between
+
+-- what stands before the rows
+unfoldable pub cacheHead : ℕ → List ℕ → List ℕ → List ℕ
+cacheHead version i between = cacheMagic ++ headRest version i between
 
 -- bytes, and behind them their CRC-32
 abbrev pub withCrc : List ℕ → List ℕ
 withCrc h = h ++ bytes 4 (crc32 h)
 
 -- the whole cache
-unfoldable pub cacheBytes : ℕ → List ℕ → List ℕ → List ℕ
-cacheBytes version i rows = withCrc (cacheHead version i ++ rows)
+unfoldable pub cacheBytes : ℕ → List ℕ → List ℕ → List ℕ → List ℕ
+cacheBytes version i between rows = withCrc (cacheHead version i between ++ rows)
 
 -- "A row is scale f64, norm i64, one signed byte a coordinate"
 abbrev pub rowLength : ℕ → ℕ
 rowLength dimensions = dimensions + 16
 
--- "Size = identity + 20 + rows × (dimensions + 16)"
-abbrev pub cacheSize : ℕ → ℕ → ℕ → ℕ
-cacheSize i rows dimensions = i + 20 + rows * rowLength dimensions
+-- "Size = identity + 20 + rows × (dimensions + 16)", and the bytes between identity and rows
+abbrev pub cacheSize : ℕ → ℕ → ℕ → ℕ → ℕ
+cacheSize i between rows dimensions = i + 20 + between + rows * rowLength dimensions
 
 -- platform, root and manifest of lengths that sizing's 10 and the manifest's tests let pass, and room for the head of their cache
 pub record Lent (platform root m : List ℕ) (room : ℕ) : Type 0 where

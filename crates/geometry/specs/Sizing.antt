@@ -3,9 +3,10 @@
 use mathlib.Core.Bool.{Bool, _&&_}
 use Prim.Native.Nat.{ℕ, _+_, _*_}
 use lib.Dec.{leb}
+use lib.ListN.{length}
 use Rattle.config.specs.Limits.{maxCodeBytes, maxCacheBytes}
-use Rattle.format.specs.Order.{unless, within}
-use Rattle.geometry.specs.Cache.{identityLength, rowLength, cacheSize}
+use Rattle.format.specs.Order.{unless, orElse, within}
+use Rattle.geometry.specs.Cache.{identityLength, cacheBetween, rowLength, cacheSize}
 use Rattle.geometry.specs.declared.Options.{Options}
 
 -- "10: platform name over 64 bytes (added), root over 1,048,576"
@@ -29,9 +30,20 @@ codesOk rows dimensions = leb (rows * dimensions) maxCodeBytes
 abbrev pub sizeOk : ℕ → ℕ → Bool
 sizeOk size limit = leb (size + 8) limit
 
+-- 10 and 7, of rows of some length
+unfoldable pub boundsNumber : ℕ → ℕ → ℕ → ℕ → ℕ → ℕ
+boundsNumber platform root limit block row =
+    unless (placeOk platform root) 10
+    (unless (optionsOk limit block row) 7 0)
+
+-- 8 and 9, of a cache of some size
+unfoldable pub limitsNumber : ℕ → ℕ → ℕ → ℕ → ℕ
+limitsNumber rows dimensions size limit =
+    unless (codesOk rows dimensions) 8
+    (unless (sizeOk size limit) 9 0)
+
+-- the base's
 unfoldable pub sizingNumber : ℕ → ℕ → ℕ → ℕ → ℕ → ℕ → ℕ → ℕ
 sizingNumber platform root limit block manifest rows dimensions =
-    unless (placeOk platform root) 10
-    (unless (optionsOk limit block (rowLength dimensions)) 7
-    (unless (codesOk rows dimensions) 8
-    (unless (sizeOk (cacheSize (identityLength platform root manifest) rows dimensions) limit) 9 0)))
+    orElse (boundsNumber platform root limit block (rowLength dimensions))
+    (limitsNumber rows dimensions (cacheSize (identityLength platform root manifest) (length cacheBetween) rows dimensions) limit)

@@ -4,8 +4,8 @@ ghost use Prim.Native.Nat.{_+_, _≤_, _<_};
 ghost use lib.ListN.{length, take, drop};
 ghost use Rattle.le.specs.Le.{paste};
 ghost use Rattle.format.specs.Same.{sameBytes};
-ghost use Rattle.geometry.specs.Cache.{counted, identity as identityOf, identityLength, cacheHead, rowLength, cacheSize, Lent};
-ghost use Rattle.geometry.specs.Sizing.{placeOk, optionsOk, defaultOptions, codesOk, sizingNumber};
+ghost use Rattle.geometry.specs.Cache.{counted, identity as identityOf, identityLength, cacheVersion, cacheBetween, headRest, cacheHead, rowLength, cacheSize, Lent};
+ghost use Rattle.geometry.specs.Sizing.{placeOk, optionsOk, defaultOptions, codesOk, boundsNumber, limitsNumber, sizingNumber};
 ghost use Rattle.geometry.specs.Open.{headOk, sameIdentity, openNumber};
 
 // "VECSQ801"
@@ -65,11 +65,12 @@ pub fn identity_length(platform: usize, root: usize, manifest: usize) -> usize
     4 + platform + (4 + root) + (manifest - 12)
 }
 
-pub fn cache_size(identity: usize, rows: usize, dimensions: usize) -> usize
-    requires { ⌜ (identity < 4294967296) × (rows ≤ 1000000) × (dimensions ≤ 4096) ⌝ }
-    ensures { λ r. ⌜ r ≡ cacheSize identity rows dimensions ⌝ }
+// From the lengths of the identity and of the bytes between it and the rows.
+pub fn cache_size(identity: usize, between: usize, rows: usize, dimensions: usize) -> usize
+    requires { ⌜ (identity < 4294967296) × (between < 4294967296) × (rows ≤ 1000000) × (dimensions ≤ 4096) ⌝ }
+    ensures { λ r. ⌜ r ≡ cacheSize identity between rows dimensions ⌝ }
 {
-    identity + 20 + rows * row_length(dimensions)
+    identity + 20 + between + rows * row_length(dimensions)
 }
 
 // Sizing's 10.
@@ -87,8 +88,35 @@ pub fn codes_hold(rows: usize, dimensions: usize) -> bool
     rows * dimensions <= config::MAX_CODE_BYTES
 }
 
-// The number of the first test of sizing that fails, or 0. The limit counts 8 bytes beside the cache, which were
-// the Rust's LEASE file.
+// Sizing's 10 and 7, of rows of some length.
+fn bounds_number(platform: usize, root: usize, options: Options, row: usize) -> u32
+    ensures { λ r. ⌜ r ≡ boundsNumber platform root (options .«max_cache_bytes») (options .«buffer_bytes») row ⌝ }
+{
+    if !place_holds(platform, root) {
+        return 10;
+    }
+    if !options.validate(row) {
+        return 7;
+    }
+    0
+}
+
+// Sizing's 8 and 9, of a cache of some size. The limit counts 8 bytes beside the cache, which were the Rust's LEASE
+// file.
+fn limits_number(rows: usize, dimensions: usize, size: usize, limit: usize) -> u32
+    requires { ⌜ (rows ≤ 1000000) × (dimensions ≤ 4096) × (size < 9223372036854775808) ⌝ }
+    ensures { λ r. ⌜ r ≡ limitsNumber rows dimensions size limit ⌝ }
+{
+    if !codes_hold(rows, dimensions) {
+        return 8;
+    }
+    if limit < size + 8 {
+        return 9;
+    }
+    0
+}
+
+// The number of the first test of sizing that fails, or 0.
 pub fn sizing_number(
     platform: usize,
     root: usize,
@@ -100,21 +128,13 @@ pub fn sizing_number(
     requires { ⌜ (66 ≤ manifest) × (manifest ≤ 67108864) × (rows ≤ 1000000) × (dimensions ≤ 4096) ⌝ }
     ensures { λ r. ⌜ r ≡ sizingNumber platform root (options .«max_cache_bytes») (options .«buffer_bytes») manifest rows dimensions ⌝ }
 {
-    if !place_holds(platform, root) {
-        return 10;
-    }
-    if !options.validate(row_length(dimensions)) {
-        return 7;
-    }
-    if !codes_hold(rows, dimensions) {
-        return 8;
+    let number = bounds_number(platform, root, options, row_length(dimensions));
+    if number != 0 {
+        return number;
     }
     let identity = identity_length(platform, root, manifest);
-    let size = cache_size(identity, rows, dimensions);
-    if options.max_cache_bytes < size + 8 {
-        return 9;
-    }
-    0
+    let size = cache_size(identity, 0, rows, dimensions);
+    limits_number(rows, dimensions, size, options.max_cache_bytes)
 }
 
 // ---- The head.
@@ -152,16 +172,24 @@ fn put_identity(cache: &mut [u8], platform: &[u8], root: &[u8], manifest: &[u8])
     put_bytes(cache, rest_at, &manifest[8..end]);
 }
 
-// What stands before the rows.
-pub fn put_head(cache: &mut [u8], platform: &[u8], root: &[u8], manifest: &[u8])
+// What stands between the magic and the rows.
+fn put_rest(cache: &mut [u8], platform: &[u8], root: &[u8], manifest: &[u8])
     requires { ⌜ Lent (now platform) (now root) (now manifest) (length (now cache)) ⌝ }
-    ensures { λ r. ⌜ now (cache .exit) ≡ paste (now (cache .entry)) 0 (cacheHead 1 (identityOf (now (platform .entry)) (now (root .entry)) (now (manifest .entry)))) ⌝ }
+    ensures { λ r. ⌜ now (cache .exit) ≡ paste (now (cache .entry)) 8 (headRest cacheVersion (identityOf (now (platform .entry)) (now (root .entry)) (now (manifest .entry))) cacheBetween) ⌝ }
 {
     let identity = identity_length(platform.len(), root.len(), manifest.len());
-    le::put_u64(cache, 0, MAGIC);
     le::put_u32(cache, 8, VERSION);
     le::put_u32(cache, 12, identity as u32);
     put_identity(cache, platform, root, manifest);
+}
+
+// What stands before the rows.
+pub fn put_head(cache: &mut [u8], platform: &[u8], root: &[u8], manifest: &[u8])
+    requires { ⌜ Lent (now platform) (now root) (now manifest) (length (now cache)) ⌝ }
+    ensures { λ r. ⌜ now (cache .exit) ≡ paste (now (cache .entry)) 0 (cacheHead cacheVersion (identityOf (now (platform .entry)) (now (root .entry)) (now (manifest .entry))) cacheBetween) ⌝ }
+{
+    le::put_u64(cache, 0, MAGIC);
+    put_rest(cache, platform, root, manifest);
 }
 
 // ---- Opening.

@@ -29,7 +29,7 @@ use Rattle.manifest.specs.Check.{manifestNumber, checkedBy}
 use Rattle.segment.specs.Record.{startOf, recordOk}
 use Rattle.segment.specs.Check.{badRecord, segmentCrcOk, rowsRefusal as segmentRows, segmentRefusal, inOrder, segmentsRefusal, libraryRefusal}
 use Rattle.geometry.specs.Cache.{identity, cacheVersion, rowLength}
-use Rattle.geometry.specs.Sizing.{defaultOptions, placeOk, optionsOk, codesOk, sizeOk, sizingNumber}
+use Rattle.geometry.specs.Sizing.{defaultOptions, placeOk, optionsOk, codesOk, sizeOk, boundsNumber, limitsNumber, sizingNumber}
 use Rattle.geometry.specs.Open.{headOk, sameIdentity, openNumber as cacheHeadNumber}
 use Rattle.geometry.specs.declared.Options.{Options}
 use Rattle.quantized_cache.specs.Size.{sizeOf, sizingOf, sizeNumber}
@@ -111,12 +111,13 @@ library-shown m expected s h =
 
 -- ---- the opening's
 sizing-other : (m platform root : List ℕ) (o : Options) → Other (sizingOf m platform root o)
-unfolding sizingOf sizingNumber
+unfolding sizingOf sizingNumber boundsNumber limitsNumber
 sizing-other m platform root o =
     let size = sizeOf m platform root in
-    unless-other (placeOk (length platform) (length root)) _ _ refl refl
-    (unless-other (optionsOk (o .«max_cache_bytes») (o .«buffer_bytes») (rowLength (dimensionsOf m))) _ _ refl refl
-    (unless-other (codesOk (rowsOf m) (dimensionsOf m)) _ _ refl refl (unless-other (sizeOk size (o .«max_cache_bytes»)) _ _ refl refl none-other)))
+    let row = rowLength (dimensionsOf m) in
+    or-other (boundsNumber (length platform) (length root) (o .«max_cache_bytes») (o .«buffer_bytes») row) (limitsNumber (rowsOf m) (dimensionsOf m) size (o .«max_cache_bytes»))
+    (unless-other (placeOk (length platform) (length root)) _ _ refl refl (unless-other (optionsOk (o .«max_cache_bytes») (o .«buffer_bytes») row) _ _ refl refl none-other))
+    (unless-other (codesOk (rowsOf m) (dimensionsOf m)) _ _ refl refl (unless-other (sizeOk size (o .«max_cache_bytes»)) _ _ refl refl none-other))
 
 open-shown : (m : List ℕ) (expected : ℕ) (cache platform root : List ℕ) (o : Options) → length m ≤ maxFileBytes
     → Shown (openRefusal m expected mostPlaces cache platform root o)

@@ -8,21 +8,15 @@ use lib.ListN.{length, take}
 use borrow.Author.Tests.{leb-true, le-leb, eqb-true, eqb-false, eq-eqb}
 use Rattle.le.proofs.Chain.{by, held}
 use Rattle.config.proofs.Refusals.{not-zero}
-use Rattle.format.specs.Order.{orElse}
 use Rattle.format.specs.Fields.{modelLength, rowsOf}
 use Rattle.format.specs.Head.{opensOk, kindOk, identityOk, countsOk, headNumber}
+use Rattle.format.proofs.Refusals.{or-else, or-else-not}
 use Rattle.entries.specs.Plan.{rowsOk, crcOk, planNumber}
 use Rattle.manifest.specs.Tiling.{tiled}
 use Rattle.manifest.specs.Scratch.{rowKeys}
 use Rattle.manifest.proofs.Keys.{take-ordered, length-ordered}
 use Rattle.le.specs.Le.{zeros}
 use Rattle.manifest.specs.Check.{manifestNumber, scratchAfter, scratchHeld}
-
--- both tables pass
-pub or-else : (a b : ℕ) → orElse a b ≡ 0 → (a ≡ 0) × (b ≡ 0)
-or-else a b h =
-    by (eqb a 0) (λ e. (eqb-true a 0 e, rw e at h))
-    (λ e. let f : a ≡ 0 = rw e at h in (f, absurd (eqb-false a 0 e f)))
 
 pub record Planned (m : List ℕ) (expected room : ℕ) : Type 0 where
   pub head : headNumber m ≡ 0
@@ -81,9 +75,6 @@ other-room m expected room other h f =
     rw (eq-eqb (planNumber m expected other) 0 (plans (record { head = p .head; rows = p .rows; crc = p .crc; roomy = f })), a .1)
 
 -- ---- no test of the manifest has the number 5
-pub or-else-not : (a b n : ℕ) → (a ≡ n → ⊥) → (b ≡ n → ⊥) → orElse a b ≡ n → ⊥
-or-else-not a b n f g h = by (eqb a 0) (λ e. g (rw e at h)) (λ e. f (rw e at h))
-
 head-not-5 : (m : List ℕ) → headNumber m ≡ 5 → ⊥
 unfolding headNumber
 head-not-5 m h =

@@ -10,8 +10,9 @@ use borrow.Author.Tests.{eqb-false}
 use Rattle.le.proofs.Chain.{by, held}
 use Rattle.config.specs.Refusal.{none, refused, refusedOr}
 use Rattle.format.specs.Fields.{dimensionsOf, rowsOf}
-use Rattle.geometry.specs.Cache.{rowLength, cacheSize, identityLength}
-use Rattle.geometry.specs.Sizing.{placeOk, optionsOk, codesOk, sizeOk, sizingNumber}
+use Rattle.format.proofs.Refusals.{or-else-not}
+use Rattle.geometry.specs.Cache.{rowLength, cacheBetween, cacheSize, identityLength}
+use Rattle.geometry.specs.Sizing.{placeOk, optionsOk, codesOk, sizeOk, boundsNumber, limitsNumber, sizingNumber}
 use Rattle.geometry.specs.declared.Options.{Options}
 use Rattle.manifest.specs.Check.{manifestNumber}
 use Rattle.manifest.proofs.Passed.{other-room, manifest-not-5}
@@ -24,14 +25,13 @@ use Rattle.prepare.specs.Prepare.{lateRefusal, acceptedRefusal, prepareR
 use Rattle.prepare.proofs.Stored.{accepted-manifest}
 
 sizing-not-5 : (platform root limit block manifest rows dimensions : ℕ) → sizingNumber platform root limit block manifest rows dimensions ≡ 5 → ⊥
-unfolding sizingNumber
+unfolding sizingNumber boundsNumber limitsNumber
 sizing-not-5 platform root limit block manifest rows dimensions h =
-    let size = cacheSize (identityLength platform root manifest) rows dimensions in
-    let a = held (placeOk platform root) (eqb-false 10 5 refl) h in
-    let b = held (optionsOk limit block (rowLength dimensions)) (eqb-false 7 5 refl) (a .1) in
-    let c = held (codesOk rows dimensions) (eqb-false 8 5 refl) (b .1) in
-    let d = held (sizeOk size limit) (eqb-false 9 5 refl) (c .1) in
-    eqb-false 0 5 refl (d .1)
+    let size = cacheSize (identityLength platform root manifest) (length cacheBetween) rows dimensions in
+    or-else-not (boundsNumber platform root limit block (rowLength dimensions)) (limitsNumber rows dimensions size limit) 5
+    (λ k. let a = held (placeOk platform root) (eqb-false 10 5 refl) k in
+    eqb-false 0 5 refl (held (optionsOk limit block (rowLength dimensions)) (eqb-false 7 5 refl) (a .1) .1))
+    (λ k. let a = held (codesOk rows dimensions) (eqb-false 8 5 refl) k in eqb-false 0 5 refl (held (sizeOk size limit) (eqb-false 9 5 refl) (a .1) .1)) h
 
 size-not-5 : (m platform root : List ℕ) (o : Options) → sizingOf m platform root o ≡ 5 → ⊥
 unfolding sizingOf

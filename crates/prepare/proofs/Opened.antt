@@ -31,7 +31,7 @@ use Rattle.format.specs.Fields.{dimensionsOf, rowsOf, metricAt}
 use Rattle.format.proofs.Heads.{bounds}
 use Rattle.format.proofs.First.{all-pass}
 use Rattle.segment.specs.Record.{recordAt}
-use Rattle.geometry.specs.Cache.{cacheMagic, counted, inner, identity, rowLength, cacheHead, cacheBytes}
+use Rattle.geometry.specs.Cache.{cacheMagic, counted, inner, identity, rowLength, cacheVersion, cacheBetween, headRest, cacheHead, cacheBytes}
 use Rattle.geometry.specs.declared.Options.{Options}
 use Rattle.geometry.proofs.Parts.{length-head, length-cache, length-identity, magic-bytes}
 use Rattle.geometry.proofs.Opens.{head-opens}
@@ -133,9 +133,11 @@ identity-bytes platform root m p r h =
 magic-all : AllBytes cacheMagic
 magic-all = rw magic-bytes at (bytes-all 8 0x3130_3851_5343_4556)
 
-head-bytes : (version : ℕ) (i : List ℕ) → AllBytes i → AllBytes (cacheHead version i)
-unfolding cacheHead
-head-bytes version i h = append-bytes (cacheMagic ++ bytes 4 version) (counted i) (append-bytes cacheMagic (bytes 4 version) magic-all (bytes-all 4 version)) (counted-bytes i h)
+head-bytes : (version : ℕ) (i between : List ℕ) → AllBytes i → AllBytes between → AllBytes (cacheHead version i between)
+unfolding cacheHead headRest
+head-bytes version i between h k =
+    append-bytes cacheMagic (bytes 4 version ++ counted i ++ between) magic-all
+    (append-bytes (bytes 4 version ++ counted i) between (append-bytes (bytes 4 version) (counted i) (bytes-all 4 version) (counted-bytes i h)) k)
 
 -- ---- the whole
 
@@ -143,7 +145,7 @@ head-bytes version i h = append-bytes (cacheMagic ++ bytes 4 version) (counted i
 module _ (m : List ℕ) (expected room : ℕ) (s platform root : List ℕ) (o : Options) (lent : ℕ)
     (h : prepareRefusal m expected room s platform root o lent .number ≡ 0) where
   abbrev content : List ℕ
-  content = cacheHead 1 (identity platform root m) ++ rowsBytes baseLevels midpoints m s (rowsOf m)
+  content = cacheHead cacheVersion (identity platform root m) cacheBetween ++ rowsBytes baseLevels midpoints m s (rowsOf m)
 
   parts : cacheOf m s platform root ≡ content ++ bytes 4 (crc32 content)
   unfolding cacheOf cacheBytes
@@ -156,7 +158,7 @@ module _ (m : List ℕ) (expected room : ℕ) (s platform root : List ℕ) (o : 
       let b = bounds m (ready m expected room s platform root o lent h .library .manifest .head) in
       let l = length-identity platform root m (omega (arith, b .long)) in
       let k = length-rows m s (rowsOf m) in
-      let c = length-cache 1 (identity platform root m) (rowsBytes baseLevels midpoints m s (rowsOf m)) in
+      let c = length-cache cacheVersion (identity platform root m) cacheBetween (rowsBytes baseLevels midpoints m s (rowsOf m)) in
       omega (arith, l, k, c)
 
   -- whatever scratch of at least rows elements is lent
@@ -171,15 +173,16 @@ module _ (m : List ℕ) (expected room : ℕ) (s platform root : List ℕ) (o : 
   number other f =
       let r = ready m expected room s platform root o lent h in
       let b = bounds m (r .library .manifest .head) in
-      let z = sizing-in m platform root o (r .library .sizing) in
+      let z = sizing-in m platform root o (r .library .sizing) .bounds in
       let i = identity platform root m in
       let rows = rowsBytes baseLevels midpoints m s (rowsOf m) in
       let l = length-identity platform root m (omega (arith, b .long)) in
-      let front : take (16 + length i) (cacheOf m s platform root) ≡ cacheHead 1 i =
-      ap (take (16 + length i)) (parts ∙ append-assoc (cacheHead 1 i) rows (bytes 4 (crc32 content)))
-      ∙ take-at (cacheHead 1 i) (rows ++ bytes 4 (crc32 content)) (16 + length i) (length-head 1 i) in
+      let ends = 16 + length i + length cacheBetween in
+      let front : take ends (cacheOf m s platform root) ≡ cacheHead cacheVersion i cacheBetween =
+      ap (take ends) (parts ∙ append-assoc (cacheHead cacheVersion i cacheBetween) rows (bytes 4 (crc32 content)))
+      ∙ take-at (cacheHead cacheVersion i cacheBetween) (rows ++ bytes 4 (crc32 content)) ends (length-head cacheVersion i cacheBetween) in
       rw (eq-eqb (sizeNumber m expected other platform root o) 0 (sized-again other f))
-      (head-opens 1 (sizeOf m platform root) i (cacheOf m s platform root) (omega arith) (omega (arith, l, z .platform-short, z .root-short, b .short)) (omega (arith, l)) cache-long front)
+      (head-opens cacheVersion (sizeOf m platform root) i cacheBetween (cacheOf m s platform root) (omega arith) (omega (arith, l, z .platform-short, z .root-short, b .short)) (omega (arith, l)) cache-long front)
 
   rows-pass : AllBytes content → contentRefusal baseLevels (metricAt m) (rowsOf m) (dimensionsOf m) (cacheOf m s platform root) ≡ none
   unfolding contentRefusal
@@ -187,7 +190,7 @@ module _ (m : List ℕ) (expected room : ℕ) (s platform root : List ℕ) (o : 
       let r = ready m expected room s platform root o lent h in
       let b = bounds m (r .library .manifest .head) in
       let t = bytes 4 (crc32 content) in
-      let v = rows-hold m s (cacheHead 1 (identity platform root m)) t (length-bytes 4 (crc32 content)) (b .high) (r .records) in
+      let v = rows-hold m s (cacheHead cacheVersion (identity platform root m) cacheBetween) t (length-bytes 4 (crc32 content)) (b .high) (r .records) in
       rw (parts, eq-eqb (badRow baseLevels (metricAt m) (rowsOf m) (dimensionsOf m) (content ++ t)) (rowsOf m) v, ends-in-crc content a)
 
   -- document 01, Contracts: against "an opener refusing every cache" and "preparation that stores nothing"
@@ -196,7 +199,7 @@ module _ (m : List ℕ) (expected room : ℕ) (s platform root : List ℕ) (o : 
   unfolding openRefusal
   prepared-opens a p r other f =
       let i = identity platform root m in
-      let b = append-bytes (cacheHead 1 i) (rowsBytes baseLevels midpoints m s (rowsOf m)) (head-bytes 1 i (identity-bytes platform root m p r a)) (rows-bytes m s (rowsOf m)) in
+      let b = append-bytes (cacheHead cacheVersion i cacheBetween) (rowsBytes baseLevels midpoints m s (rowsOf m)) (head-bytes cacheVersion i cacheBetween (identity-bytes platform root m p r a) tt) (rows-bytes m s (rowsOf m)) in
       goes-on (openNumber m expected other (cacheOf m s platform root) platform root o) (contentRefusal baseLevels (metricAt m) (rowsOf m) (dimensionsOf m) (cacheOf m s platform root)) (number other f) ∙ rows-pass b
 
   -- the slice of the cache's size, as preparing leaves it
@@ -211,7 +214,7 @@ module _ (m : List ℕ) (expected room : ℕ) (s platform root : List ℕ) (o : 
       → cachedAt (rowsOf m) (dimensionsOf m) (cacheOf m s platform root) n ≡ rowOf baseLevels midpoints m s n
   prepared-rows n i =
       let b = bounds m (ready m expected room s platform root o lent h .library .manifest .head) in
-      rw parts (rows-read m s (cacheHead 1 (identity platform root m)) (bytes 4 (crc32 content)) (length-bytes 4 (crc32 content)) (b .high) n i)
+      rw parts (rows-read m s (cacheHead cacheVersion (identity platform root m) cacheBetween) (bytes 4 (crc32 content)) (length-bytes 4 (crc32 content)) (b .high) n i)
 
   -- all of it, from the entries' outcomes: what preparing leaves of a lent cache, cut to its size, is opened, with the encoder's own rows
   pub prepared-opened : AllBytes m → AllBytes platform → AllBytes root → (other : ℕ) → rowsOf m ≤ other → (d : List ℕ)

@@ -15,7 +15,7 @@ use Rattle.config.specs.Refusal.{refused, refusedOr}
 use Rattle.config.proofs.Refusals.{not-zero, held-number, goes-on, stops, none-refused, is-other, Plain, plain-or}
 use Rattle.quantization.specs.Encoder.{baseLevels, midpoints}
 use Rattle.format.specs.Fields.{rowsOf, dimensionsOf}
-use Rattle.geometry.specs.Cache.{identity, identityLength, cacheHead, cacheBytes}
+use Rattle.geometry.specs.Cache.{identity, identityLength, cacheVersion, cacheBetween, cacheHead, cacheBytes}
 use Rattle.geometry.proofs.Parts.{length-identity, length-head}
 use Rattle.manifest.specs.Check.{manifestNumber}
 use Rattle.manifest.proofs.Passed.{accepted}
@@ -40,7 +40,7 @@ length-rows m s n = length-joined (λ r. rowBytes (rowOf baseLevels midpoints m 
 
 module _ (m s platform root : List ℕ) where
   abbrev head : List ℕ
-  head = cacheHead 1 (identity platform root m)
+  head = cacheHead cacheVersion (identity platform root m) cacheBetween
 
   abbrev rows : List ℕ
   rows = rowsBytes baseLevels midpoints m s (rowsOf m)
@@ -57,7 +57,7 @@ module _ (m s platform root : List ℕ) where
       → Stores at size room
   stores at size room e z l f =
       let i = length-identity platform root m (omega (arith, l)) in
-      let h = length-head 1 (identity platform root m) in
+      let h = length-head cacheVersion (identity platform root m) cacheBetween in
       let r = length-rows m s (rowsOf m) in
       record {
         head-ends = omega (arith, e, i, h);

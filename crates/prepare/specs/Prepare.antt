@@ -9,7 +9,7 @@ use Rattle.config.specs.Refusal.{refused, refusedOr, unlessRefused}
 use Rattle.config.specs.declared.Refusal.{Refusal}
 use Rattle.quantization.specs.Encoder.{baseLevels, midpoints}
 use Rattle.format.specs.Fields.{generationOf, sequenceOf, rowsOf, dimensionsOf}
-use Rattle.geometry.specs.Cache.{identity, cacheVersion, cacheBytes}
+use Rattle.geometry.specs.Cache.{identity, cacheVersion, cacheBetween, cacheBytes}
 use Rattle.geometry.specs.declared.Options.{Options}
 use Rattle.manifest.specs.Check.{manifestNumber}
 use Rattle.quantized_cache.specs.Size.{sizingOf, sizeOf}
@@ -31,7 +31,7 @@ prepareRefusal m expected scratch s platform root o room =
 
 -- the cache of a library, with the base's version and encoder
 unfoldable pub cacheOf : List ℕ → List ℕ → List ℕ → List ℕ → List ℕ
-cacheOf m s platform root = cacheBytes cacheVersion (identity platform root m) (rowsBytes baseLevels midpoints m s (rowsOf m))
+cacheOf m s platform root = cacheBytes cacheVersion (identity platform root m) cacheBetween (rowsBytes baseLevels midpoints m s (rowsOf m))
 
 -- "bytes past the size stay"; on a refusal all of them
 unfoldable pub cacheAfter : List ℕ → List ℕ → List ℕ → List ℕ → Refusal → List ℕ → List ℕ

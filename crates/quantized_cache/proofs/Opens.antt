@@ -11,7 +11,7 @@ use Rattle.codes.specs.Codes.{within}
 use Rattle.quantization.specs.View.{rowAt, validRow}
 use Rattle.format.specs.Fields.{dimensionsOf, rowsOf}
 use Rattle.config.proofs.Refusals.{not-zero}
-use Rattle.manifest.proofs.Passed.{or-else}
+use Rattle.format.proofs.Refusals.{or-else}
 use Rattle.geometry.specs.Cache.{identity, rowLength}
 use Rattle.geometry.specs.Open.{headOk, openNumber as cacheHeadNumber}
 use Rattle.geometry.specs.declared.Options.{Options}

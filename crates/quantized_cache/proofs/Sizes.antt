@@ -5,7 +5,8 @@ use Prim.Native.Nat.{ℕ}
 use lib.ListN.{length}
 use Rattle.format.specs.Fields.{dimensionsOf, rowsOf}
 use Rattle.manifest.specs.Check.{manifestNumber}
-use Rattle.manifest.proofs.Passed.{Planned, accepted, or-else}
+use Rattle.format.proofs.Refusals.{or-else}
+use Rattle.manifest.proofs.Passed.{Planned, accepted}
 use Rattle.geometry.specs.declared.Options.{Options}
 use Rattle.geometry.proofs.Sizes.{Sized, sized}
 use Rattle.quantized_cache.specs.Size.{sizingOf, sizeNumber}

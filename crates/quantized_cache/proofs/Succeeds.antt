@@ -14,10 +14,10 @@ use Rattle.config.proofs.Refusals.{not-zero, held-number, goes-on, none-refused
 use Rattle.quantization.specs.Encoder.{baseLevels}
 use Rattle.format.specs.Fields.{dimensionsOf, rowsOf, metricAt}
 use Rattle.format.specs.Same.{sameHead}
+use Rattle.format.proofs.Refusals.{or-else}
 use Rattle.format.proofs.First.{each-passes}
 use Rattle.format.proofs.Same.{Unchanged}
 use Rattle.manifest.specs.Check.{manifestNumber}
-use Rattle.manifest.proofs.Passed.{or-else}
 use Rattle.manifest.proofs.Heads.{accepted-head}
 use Rattle.geometry.specs.Cache.{identity, cacheVersion, rowLength}
 use Rattle.geometry.specs.Open.{openNumber as headNumberOf}

@@ -8,7 +8,7 @@ use Rattle.config.specs.Refusal.{refused}
 use Rattle.format.specs.Order.{orElse}
 use Rattle.format.specs.Fields.{dimensionsOf, rowsOf}
 use Rattle.manifest.specs.Check.{manifestNumber}
-use Rattle.geometry.specs.Cache.{identityLength, cacheSize}
+use Rattle.geometry.specs.Cache.{identityLength, cacheBetween, cacheSize}
 use Rattle.geometry.specs.Sizing.{sizingNumber}
 use Rattle.geometry.specs.declared.Options.{Options}
 use Rattle.quantized_cache.specs.declared.Sized.{Sized}
@@ -19,7 +19,7 @@ sizingOf m platform root o =
     sizingNumber (length platform) (length root) (o .«max_cache_bytes») (o .«buffer_bytes») (length m) (rowsOf m) (dimensionsOf m)
 
 abbrev pub sizeOf : List ℕ → List ℕ → List ℕ → ℕ
-sizeOf m platform root = cacheSize (identityLength (length platform) (length root) (length m)) (rowsOf m) (dimensionsOf m)
+sizeOf m platform root = cacheSize (identityLength (length platform) (length root) (length m)) (length cacheBetween) (rowsOf m) (dimensionsOf m)
 
 -- the manifest's tests, then sizing's; `room` is the length of the scratch
 unfoldable pub sizeNumber : List ℕ → ℕ → ℕ → List ℕ → List ℕ → Options → ℕ

@@ -78,7 +78,7 @@ pub fn size_of(m: &[u8], platform: &[u8], root: &[u8], options: Options) -> usiz
 {
     let layout = format::read_layout(m);
     let identity = geometry::identity_length(platform.len(), root.len(), m.len());
-    geometry::cache_size(identity, layout.rows, layout.dimensions)
+    geometry::cache_size(identity, 0, layout.rows, layout.dimensions)
 }
 
 pub fn size(

@@ -18,7 +18,7 @@ use Rattle.format.specs.Fields.{rowsOf}
 use Rattle.format.specs.Same.{sameHead}
 use Rattle.format.specs.declared.Head.{Head}
 use Rattle.format.proofs.Heads.{both}
-use Rattle.manifest.proofs.Passed.{or-else}
+use Rattle.format.proofs.Refusals.{or-else}
 use Rattle.search_spec.specs.Lent.{Rows, Call, handed}
 use Rattle.search_spec.specs.Tests.{idsOk, headOk, queryOk, mostOk, limitOk, roomOf, roomOk, openBy, queryBy, frontBy, frontNumber}
 use Rattle.search_spec.specs.Lists.{candidateRows, listedRows}

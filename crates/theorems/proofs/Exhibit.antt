@@ -36,7 +36,7 @@ use Rattle.format.specs.Fields.{magic, generationOf, sequenceOf, dimensionsOf, 
 use Rattle.format.specs.Head.{opensOk, kindOk, identityOk, countsOk, headNumber, lengthsOk}
 use Rattle.format.proofs.Heads.{both}
 use Rattle.entries.specs.Plan.{rises, entryOk, rowsOk, crcOk, planNumber}
-use Rattle.geometry.specs.Sizing.{defaultOptions, sizingNumber}
+use Rattle.geometry.specs.Sizing.{defaultOptions, boundsNumber, limitsNumber, sizingNumber}
 use Rattle.manifest.specs.Tiling.{position, physical, inSegment, follow, covers, tiled}
 use Rattle.manifest.specs.Check.{manifestNumber}
 use Rattle.segment.specs.Record.{startOf, recordAt, partsOk, recordOk}
@@ -118,7 +118,7 @@ abbrev preparing : Refusal
 preparing = prepareRefusal manifest crc 2 segments platform root defaultOptions 400
 
 prepares : preparing .number ≡ 0
-unfolding number bytes rowsOf dimensionsOf modelLength sizingOf sizingNumber
+unfolding number bytes rowsOf dimensionsOf modelLength sizingOf sizingNumber boundsNumber limitsNumber
 prepares = ap (λ (r : Refusal). r .number) (accepted-prepared manifest crc 2 segments passes 2 two-rows platform root defaultOptions 400)
 
 abbrev cache : List ℕ

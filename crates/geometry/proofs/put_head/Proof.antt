@@ -2,7 +2,7 @@ use borrow.Author.Needs.{needs}
 use native.Mathlib.Omega.{arith}
 use Prim.Native.Nat.{_≤_}
 use lib.ListN.{length}
-use Rattle.geometry.specs.Cache.{identity}
+use Rattle.geometry.specs.Cache.{identity, cacheVersion, cacheBetween}
 use Rattle.geometry.proofs.Parts.{length-identity, magic-bytes, head-stored}
 use Rattle.geometry.proofs.put_head.Statement.{statement}
 use Rattle.geometry.proofs.put_head.Tie as tie
@@ -10,25 +10,18 @@ use Rattle.geometry.proofs.put_head.Tie as tie
 returns : tie.Need-returns
 returns c =
     let p = c .before .before in
-    let u = p .before .before .before .before in
-    let v = u .before .before .before .before in
-    let w = v .before .before .before .before in
-    let n = w .before .before in
-    let b = n .before .before .before .before .before in
+    let w = p .before .before .before .before in
+    let b = w .before .before .before .before .before .before in
     let m = b .args .manifest .now in
     let l : 12 ≤ length m = omega (arith, b .pre .long) in
     let e = length-identity (b .args .platform .now) (b .args .root .now) m l in
     let i = identity (b .args .platform .now) (b .args .root .now) m in
-    rw (p .put-identity .ensures, u .put-u322 .ensures, v .put-u32 .ensures, w .put-u64 .ensures, magic-bytes, n .identity-length .ensures, ← e) (head-stored (b .args .cache .now) 1 i (rw e (b .pre .fits)))
+    rw (p .put-rest .ensures, w .put-u64 .ensures, magic-bytes) (head-stored (b .args .cache .now) cacheVersion i cacheBetween (omega (arith, e, b .pre .fits)))
 
 pub put-head-spec : {M : Type 1} → statement M
 put-head-spec =
     tie.close
     (tie.spec
-    (λ c κs. search needs)
-    (λ c κs. search needs)
-    (λ c κs. search needs)
-    (λ c. search needs)
     (λ c κs. search needs)
     (λ c κs. search needs)
     (λ c. search needs)

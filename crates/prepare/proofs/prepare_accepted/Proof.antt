@@ -36,7 +36,7 @@ asked : tie.Need-fill-requires
 asked c κs =
     let b = c .before .before .before .before .before .before .before .before .before .before in
     let z = c .before .size-of .ensures in
-    let g = sizing-in (b .args .m .now) (b .args .platform .now) (b .args .root .now) (b .args .options) (number (c .before .before)) in
+    let g = sizing-in (b .args .m .now) (b .args .platform .now) (b .args .root .now) (b .args .options) (number (c .before .before)) .bounds in
     let h = bounds (b .args .m .now) (b .pre .0) in
     (b .pre .0, b .pre .1, b .pre .2, z, record { platform-short = g .platform-short; root-short = g .root-short; long = h .long; short = h .short; fits = omega (arith, z) })
 

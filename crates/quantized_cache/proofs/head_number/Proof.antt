@@ -12,6 +12,6 @@ head-number-spec =
     (λ c κs. c .before .before .before .before .pre)
     (λ c κs. let b = c .before .before .before .before .before in
     let h = bounds (b .args .m .now) (b .pre .0) in
-    let s = sizing-in (b .args .m .now) (b .args .platform .now) (b .args .root .now) (b .args .options) (b .pre .1) in
+    let s = sizing-in (b .args .m .now) (b .args .platform .now) (b .args .root .now) (b .args .options) (b .pre .1) .bounds in
     record { platform-short = s .platform-short; root-short = s .root-short; long = h .long; short = h .short; fits = rw (c .size-of .ensures) (omega arith) })
     (λ c. c .open-number .ensures ∙ rw (c .before .size-of .ensures)))

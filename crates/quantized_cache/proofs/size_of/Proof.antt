@@ -12,11 +12,11 @@ size-of-spec =
     (λ c κs. c .before .before .before .pre .0)
     (λ c κs. let b = c .before .before .before .before in
     let h = bounds (b .args .m .now) (b .pre .0) in
-    let s = sizing-in (b .args .m .now) (b .args .platform .now) (b .args .root .now) (b .args .options) (b .pre .1) in
+    let s = sizing-in (b .args .m .now) (b .args .platform .now) (b .args .root .now) (b .args .options) (b .pre .1) .bounds in
     (s .platform-short, s .root-short, h .long, h .short))
     (λ c κs. let b = c .before .before .before .before .before in
     let h = bounds (b .args .m .now) (b .pre .0) in
-    let s = sizing-in (b .args .m .now) (b .args .platform .now) (b .args .root .now) (b .args .options) (b .pre .1) in
+    let s = sizing-in (b .args .m .now) (b .args .platform .now) (b .args .root .now) (b .args .options) (b .pre .1) .bounds in
     let l = c .before .read-layout .ensures in
-    (omega (arith, c .identity-length .ensures, s .platform-short, s .root-short, h .short), rw (l .rows) (h .most), rw (l .dimensions) (h .high)))
+    (omega (arith, c .identity-length .ensures, s .platform-short, s .root-short, h .short), omega arith, rw (l .rows) (h .most), rw (l .dimensions) (h .high)))
     (λ c. let l = c .before .before .read-layout .ensures in c .cache-size .ensures ∙ rw (c .before .identity-length .ensures, l .rows, l .dimensions)))
