@@ -47,7 +47,7 @@ pub fn record_end(e: Entry, dimensions: usize) -> usize
     format::wide(e.offset) + (12 + 4 * dimensions + format::wide(e.metadata))
 }
 
-fn entry_holds(m: &[u8], layout: Layout, row: usize) -> bool
+pub fn entry_holds(m: &[u8], layout: Layout, row: usize) -> bool
     requires { ⌜ Placed (now m) layout × (row < layout .rows) ⌝ }
     ensures { λ r. ⌜ r ≡ entryOk (now (m .entry)) row ⌝ }
 {

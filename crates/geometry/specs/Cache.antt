@@ -53,7 +53,7 @@ cacheBytes version i between rows = withCrc (cacheHead version i between ++ rows
 abbrev pub rowLength : ℕ → ℕ
 rowLength dimensions = dimensions + 16
 
--- "Size = identity + 20 + rows × (dimensions + 16)", and the bytes between identity and rows
+-- "Size = identity + 20 + rows × (dimensions + 16)", and as many as stand between identity and rows
 abbrev pub cacheSize : ℕ → ℕ → ℕ → ℕ → ℕ
 cacheSize i between rows dimensions = i + 20 + between + rows * rowLength dimensions
 

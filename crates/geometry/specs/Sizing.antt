@@ -42,7 +42,7 @@ limitsNumber rows dimensions size limit =
     unless (codesOk rows dimensions) 8
     (unless (sizeOk size limit) 9 0)
 
--- the base's
+-- both, of a cache of the base
 unfoldable pub sizingNumber : ℕ → ℕ → ℕ → ℕ → ℕ → ℕ → ℕ → ℕ
 sizingNumber platform root limit block manifest rows dimensions =
     orElse (boundsNumber platform root limit block (rowLength dimensions))

@@ -5,7 +5,7 @@ use mathlib.Core.List.{List}
 use Prim.Native.Nat.{ℕ, _+_, _≤_}
 use lib.Dec.{leb, eqb}
 use lib.ListN.{length, take}
-use borrow.Author.Tests.{leb-true, le-leb, eqb-true, eqb-false, eq-eqb}
+use borrow.Author.Tests.{leb-true, le-leb, eqb-false, eq-eqb}
 use Rattle.le.proofs.Chain.{by, held}
 use Rattle.config.proofs.Refusals.{not-zero}
 use Rattle.format.specs.Fields.{modelLength, rowsOf}

@@ -3,7 +3,6 @@ use mathlib.Core.Path.{_≡_, refl, _∙_}
 use mathlib.Core.Bool.{Bool, true, false, cond}
 use mathlib.Core.List.{List}
 use Prim.Native.Nat.{ℕ, _≤_}
-use native.Mathlib.Omega.{arith}
 use lib.Dec.{leb, eqb}
 use lib.ListN.{length}
 use borrow.Author.Tests.{eqb-false}
@@ -40,7 +39,7 @@ size-not-5 m platform root o h = sizing-not-5 (length platform) (length root) (o
 -- after sizing it is refused by 11 alone
 late-accepted : (m s : List ℕ) (size lent : ℕ) → recordsRefusal m s ≡ none → lateRefusal m s size lent ≡ cond (leb size lent) none (refused 11 0)
 unfolding lateRefusal
-late-accepted m s size lent r = rw r
+late-accepted m s size lent r = rw r (by (leb size lent) (λ e. rw e) (λ e. rw e))
 
 late-not-5 : (t : Bool) → cond t none (refused 11 0) .number ≡ 5 → ⊥
 late-not-5 true h = eqb-false 0 5 refl h

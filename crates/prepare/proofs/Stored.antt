@@ -8,11 +8,12 @@ use lib.ListN.{length, take, drop, length-append}
 use lib.Seq.{take-at}
 use borrow.Author.Tests.{leb-true}
 use Rattle.le.specs.Le.{bytes, paste}
+use Rattle.le.proofs.Chain.{held}
 use Rattle.le.proofs.LeLaws.{length-bytes}
 use Rattle.le.proofs.Pastes.{paste-first, paste-next}
 use Rattle.crc32.specs.Crc.{crc32}
 use Rattle.config.specs.Refusal.{refused, refusedOr}
-use Rattle.config.proofs.Refusals.{not-zero, held-number, goes-on, stops, none-refused, is-other, Plain, plain-or}
+use Rattle.config.proofs.Refusals.{not-zero, goes-on, stops, none-refused, is-other, Plain, plain-or}
 use Rattle.quantization.specs.Encoder.{baseLevels, midpoints}
 use Rattle.format.specs.Fields.{rowsOf, dimensionsOf}
 use Rattle.geometry.specs.Cache.{identity, identityLength, cacheVersion, cacheBetween, cacheHead, cacheBytes}
@@ -26,14 +27,14 @@ use Rattle.quantization.specs.View.{rowBytes}
 use Rattle.rows.specs.Rows.{rowOf, rowsBytes, badRow, recordsRefusal}
 use Rattle.rows.proofs.Written.{length-own, none-bad, records-plain}
 use Rattle.rows.proofs.Joined.{length-joined}
-use Rattle.prepare.specs.Prepare.{lateRefusal, acceptedRefusal, prepareRefusal, cacheOf, cacheAfter, infoOf, noInfo, preparedBy}
+use Rattle.prepare.specs.Prepare.{roomNumber, lateRefusal, acceptedRefusal, prepareRefusal, cacheOf, cacheAfter, infoOf, noInfo, preparedBy}
 
 -- what is not refused after sizing
 pub late-passed : (m s : List ℕ) (size room : ℕ) → lateRefusal m s size room .number ≡ 0 → (size ≤ room) × (badRow m s ≡ rowsOf m)
 unfolding lateRefusal
 late-passed m s size room h =
-    let a = held-number (leb size room) (recordsRefusal m s) (refused 11 0) not-zero h in
-    (leb-true size room (a .0), none-bad m s (a .1))
+    let a = none-refused (roomNumber size room) (recordsRefusal m s) h in
+    (leb-true size room (held (leb size room) not-zero (a .0) .0), none-bad m s (a .1))
 
 pub length-rows : (m s : List ℕ) (n : ℕ) → length (rowsBytes baseLevels midpoints m s n) ≡ n * (dimensionsOf m + 16)
 length-rows m s n = length-joined (λ r. rowBytes (rowOf baseLevels midpoints m s r)) (dimensionsOf m + 16) (length-own baseLevels midpoints m s) n
@@ -126,9 +127,7 @@ ready m expected room s platform root o lent h =
 -- number 0 is no refusal
 late-plain : (m s : List ℕ) (size room : ℕ) → Plain (lateRefusal m s size room)
 unfolding lateRefusal
-late-plain m s size room h =
-    let a = held-number (leb size room) (recordsRefusal m s) (refused 11 0) not-zero h in
-    rw (a .0) (records-plain m s (a .1))
+late-plain m s size room = plain-or (roomNumber size room) (recordsRefusal m s) (records-plain m s)
 
 pub prepared-none : (m : List ℕ) (expected room : ℕ) (s platform root : List ℕ) (o : Options) (lent : ℕ) → Plain (prepareRefusal m expected room s platform root o lent)
 unfolding prepareRefusal acceptedRefusal

@@ -1,13 +1,13 @@
 -- Preparing (document 01, What each place turns away: "Preparing: 10, 7, 8, 9, 11, then 5 for the lowest bad row, all before the first byte
 -- is stored", after the manifest is tested anew; "11: a lent slice too short (added)": "a cache under its size").
-use mathlib.Core.Bool.{cond}
 use mathlib.Core.List.{List, _++_}
 use Prim.Native.Nat.{ℕ, _*_}
 use lib.Dec.{leb}
 use lib.ListN.{drop}
-use Rattle.config.specs.Refusal.{refused, refusedOr, unlessRefused}
+use Rattle.config.specs.Refusal.{refusedOr, unlessRefused}
 use Rattle.config.specs.declared.Refusal.{Refusal}
 use Rattle.quantization.specs.Encoder.{baseLevels, midpoints}
+use Rattle.format.specs.Order.{unless}
 use Rattle.format.specs.Fields.{generationOf, sequenceOf, rowsOf, dimensionsOf}
 use Rattle.geometry.specs.Cache.{identity, cacheVersion, cacheBetween, cacheBytes}
 use Rattle.geometry.specs.declared.Options.{Options}
@@ -17,9 +17,13 @@ use Rattle.rows.specs.Rows.{rowsBytes, recordsRefusal}
 use Rattle.prepare.specs.declared.Info.{Info}
 use Rattle.prepare.specs.declared.Prepared.{Prepared}
 
--- the refusals after sizing's: `room` is the length of the cache lent
+-- 11: `room` is the length of the cache lent
+abbrev pub roomNumber : ℕ → ℕ → ℕ
+roomNumber size room = unless (leb size room) 11 0
+
+-- the refusals after sizing's: 11, then 5
 unfoldable pub lateRefusal : List ℕ → List ℕ → ℕ → ℕ → Refusal
-lateRefusal m s size room = cond (leb size room) (recordsRefusal m s) (refused 11 0)
+lateRefusal m s size room = refusedOr (roomNumber size room) (recordsRefusal m s)
 
 -- those of an accepted manifest
 unfoldable pub acceptedRefusal : List ℕ → List ℕ → List ℕ → List ℕ → Options → ℕ → Refusal
@@ -54,6 +58,7 @@ noInfo = record { generation = 0; sequence = 0; «cache_bytes» = 0; «code_byte
 unfoldable pub preparedBy : List ℕ → ℕ → Refusal → Prepared
 preparedBy m size refusal = record { refusal = refusal; info = unlessRefused refusal (infoOf m size) noInfo }
 
+-- the whole answer, of an accepted manifest and of any; `cacheAfter` with its refusal is what is left of the cache lent
 abbrev pub preparedAccepted : List ℕ → List ℕ → List ℕ → List ℕ → Options → ℕ → Prepared
 preparedAccepted m s platform root o room = preparedBy m (sizeOf m platform root) (acceptedRefusal m s platform root o room)
 

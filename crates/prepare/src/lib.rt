@@ -50,7 +50,7 @@ fn late_refusal(m: &[u8], s: &[u8], keys: &[u64], size: usize, room: usize) -> R
 }
 
 // The cache's CRC-32, behind all else.
-fn put_crc(cache: &mut [u8], end: usize)
+pub fn put_crc(cache: &mut [u8], end: usize)
     requires { ⌜ end + 4 ≤ length (now cache) ⌝ }
     ensures { λ r. ⌜ now (cache .exit) ≡ paste (now (cache .entry)) end (bytes 4 (crc32 (take end (now (cache .entry))))) ⌝ }
 {

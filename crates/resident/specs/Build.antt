@@ -56,6 +56,7 @@ answered head refusal codes scales norms =
 abbrev pub builtBy : List ℕ → Refusal → ℕ → ℕ → ℕ → Built
 builtBy m refusal codes scales norms = answered (headAt m) refusal codes scales norms
 
+-- the whole answer, of an accepted manifest and of any; its refusal says what is left of each slice lent
 abbrev pub builtAccepted : List ℕ → List ℕ → ℕ → ℕ → ℕ → Built
 builtAccepted m s codes scales norms = builtBy m (plannedRefusal m s codes scales norms) codes scales norms
 

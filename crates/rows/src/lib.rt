@@ -5,8 +5,9 @@ ghost use Prim.Native.Nat.{_+_, _*_, _≤_, _<_};
 ghost use lib.ListN.{length};
 ghost use Rattle.le.specs.Le.{paste};
 ghost use Rattle.format.specs.Fields.{metricAt, rowsOf, dimensionsOf};
+ghost use Rattle.format.specs.Head.{lengthsOk};
 ghost use Rattle.format.specs.Layout.{Placed};
-ghost use Rattle.entries.specs.Plan.{rowsOk};
+ghost use Rattle.entries.specs.Plan.{rowsOk, entryOk};
 ghost use Rattle.quantization.specs.View.{rowBytes};
 ghost use Rattle.quantization.specs.Encoder.{Levels, midpoints, midpointsOf};
 ghost use Rattle.manifest.specs.Scratch.{rowKeys};
@@ -75,8 +76,9 @@ pub fn records_refusal(
     }
 }
 
-// The row of a record that passes, at this level count, into its own part of the cache; `t` are the midpoints.
-fn put_row(
+// The row of a record that passes, at this level count, into its own part of the cache; `t` are the midpoints. Of the entries only the
+// row's own is asked to keep its rules.
+pub fn put_row(
     m: &[u8],
     layout: Layout,
     starts: &[u64; 1025],
@@ -86,8 +88,9 @@ fn put_row(
     part: &mut [u8],
     row: usize,
 )
-    requires { ⌜ Placed (now m) layout × (rowsOk (now m) ≡ true) × (now starts ≡ startsOf (now m)) × (now t ≡ midpoints) × Levels levels
-        × (row < layout .rows) × (recordOk (now m) (now s) row ≡ true) × (length (now part) ≡ dimensionsOf (now m) + 16) ⌝ }
+    requires { ⌜ Placed (now m) layout × (lengthsOk (now m) ≡ true) × (now starts ≡ startsOf (now m)) × (now t ≡ midpoints) × Levels levels
+        × (row < layout .rows) × (entryOk (now m) row ≡ true) × (recordOk (now m) (now s) row ≡ true)
+        × (length (now part) ≡ dimensionsOf (now m) + 16) ⌝ }
     ensures { λ r. ⌜ now (part .exit) ≡ rowBytes (rowOf levels (midpointsOf levels) (now (m .entry)) (now (s .entry)) row) ⌝ }
 {
     let at = segment::record_at(m, layout, starts, row);

@@ -27,7 +27,7 @@ insideOf m s n = take (lengthOf m n - 4) (drop (startOf m n) s)
 unfoldable pub segmentCrcOk : List ℕ → List ℕ → ℕ → Bool
 segmentCrcOk m s n = eqb (crc32 (insideOf m s n)) (leAt 4 s (startOf m n + (lengthOf m n - 4))) && eqb (crc32 (insideOf m s n)) (crcOf m n)
 
--- a test, its number and its place, before the rest
+-- a test, and the number and place of its refusal, before the rest
 abbrev pub unlessAt : Bool → ℕ → ℕ → Refusal → Refusal
 unlessAt ok number place rest = cond ok rest (refused number place)
 

@@ -5,7 +5,6 @@ use Prim.Native.Nat.{_+_, _-_, _*_, _≤_}
 use lib.ListN.{length}
 use Rattle.config.specs.Vector.{finites, floatsAt}
 use Rattle.format.specs.Fields.{dimensionsOf}
-use Rattle.entries.proofs.Entries.{lengths-of, entry-keeps}
 use Rattle.segment.proofs.Records.{good}
 use Rattle.rows.proofs.put_row.Statement.{statement}
 use Rattle.rows.proofs.put_row.Tie as tie
@@ -16,17 +15,17 @@ coordinates : (c : tie.After-record-at)
     (c .record-at .result + 12 + 4 * dimensionsOf (b .args .m .now) ≤ length (b .args .s .now)) × (finites (floatsAt (dimensionsOf (b .args .m .now)) (b .args .s .now) (c .record-at .result + 12)) ≡ true)
 coordinates c =
     let b = c .before .before .before .before in
-    let g = good (b .args .m .now) (b .args .s .now) (b .args .row) (b .pre .6) in
+    let g = good (b .args .m .now) (b .args .s .now) (b .args .row) (b .pre .7) in
     rw (c .record-at .ensures) (g .inside, g .fine)
 
 width : (c : tie.After-record-at) → let b = c .before .before .before .before in length (b .args .part .now) - 16 ≡ dimensionsOf (b .args .m .now)
-width c = let b = c .before .before .before .before in let e = b .pre .7 in omega (arith, e)
+width c = let b = c .before .before .before .before in let e = b .pre .8 in omega (arith, e)
 
 asked : tie.Need-encode-row-requires
 asked c κs =
     let b = c .before .before .before .before .before in
     let h = coordinates (c .before) in
-    let e = b .pre .7 in
+    let e = b .pre .8 in
     ((b .pre .3, b .pre .4), ((omega (arith, e), omega (arith, e, b .pre .0 .high), rw (width (c .before)) (h .0)), rw (width (c .before)) (h .1)))
 
 returns : tie.Need-returns
@@ -38,9 +37,7 @@ pub put-row-spec : {M : Type 1} → statement M
 put-row-spec =
     tie.close
     (tie.spec
-    (λ c κs. let b = c .before .before .before in
-    let m = b .args .m .now in
-    (b .pre .0, lengths-of m (b .pre .1), b .pre .2, b .pre .5, entry-keeps m (b .args .row) (b .pre .1) (rw (b .pre .0 .rows) at (b .pre .5))))
+    (λ c κs. let p = c .before .before .before .pre in (p .0, p .1, p .2, p .5, p .6))
     (λ c. let h = coordinates c .0 in omega (arith, h))
     asked
     (λ c. c .before .before .encode-row .kept .1 .1 .1 .1 .0)

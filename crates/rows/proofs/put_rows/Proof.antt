@@ -11,6 +11,7 @@ use Rattle.quantization.specs.View.{rowBytes}
 use Rattle.quantization.specs.Encoder.{midpointsOf}
 use Rattle.format.specs.Fields.{rowsOf}
 use Rattle.format.proofs.First.{each-passes}
+use Rattle.entries.proofs.Entries.{lengths-of, entry-keeps}
 use Rattle.segment.specs.Record.{recordOk}
 use Rattle.rows.specs.Rows.{rowOf, rowsBytes}
 use Rattle.rows.proofs.Written.{length-own}
@@ -42,7 +43,8 @@ asked c κs =
     let b = c .before .before .before .before .before .before .before in
     let L = c .before .before .before .loop in
     let h = lies (c .before) in
-    (b .pre .0, b .pre .1, b .pre .2, b .pre .3, b .pre .4, c .before .if1 .taken, each-passes (recordOk (b .args .m .now) (b .args .s .now)) (rowsOf (b .args .m .now)) (L .row) (b .pre .5) (h .0), simp (length-take, length-drop) (omega (arith, h .1, h .2, b .pre .6)))
+    let m = b .args .m .now in
+    (b .pre .0, lengths-of m (b .pre .1), b .pre .2, b .pre .3, b .pre .4, c .before .if1 .taken, entry-keeps m (L .row) (b .pre .1) (h .0), each-passes (recordOk (b .args .m .now) (b .args .s .now)) (rowsOf (b .args .m .now)) (L .row) (b .pre .5) (h .0), simp (length-take, length-drop) (omega (arith, h .1, h .2, b .pre .6)))
 
 again : tie.Need-loop-again Inv-loop μ-loop
 again c =
