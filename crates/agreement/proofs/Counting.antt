@@ -1,4 +1,4 @@
--- The agreement count row by row. Assumes nothing.
+-- The agreement count row by row.
 use mathlib.Core.Path.{_≡_, sym, ap, _∙_}
 use mathlib.Core.Bool.{Bool, true, false}
 use mathlib.Core.List.{List}

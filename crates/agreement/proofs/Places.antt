@@ -1,4 +1,4 @@
--- The places that agree, row by row: of an ordered list they are lowered by a row that it lacks to those before that row. Assumes nothing.
+-- The places that agree, row by row: of an ordered list they are lowered by a row that it lacks to those before that row.
 use mathlib.Core.Path.{_≡_, refl, sym, ap, _∙_}
 use mathlib.Core.Logic.{_≢_, inl, inr, ⊎-elim}
 use mathlib.Core.Bool.{Bool, true, false, true≢false}

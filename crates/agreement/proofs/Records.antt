@@ -1,4 +1,4 @@
--- The records of the eligible rows by rising row, as a loop over all rows comes to them. Assumes nothing.
+-- The records of the eligible rows by rising row, as a loop over all rows comes to them.
 use mathlib.Core.Path.{_≡_, refl, sym, ap, _∙_}
 use mathlib.Core.Logic.{⊎-elim}
 use mathlib.Core.Bool.{Bool, true, false}

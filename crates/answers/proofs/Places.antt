@@ -1,4 +1,4 @@
--- The answer slices as a loop over the listed rows fills them. Assumes nothing.
+-- The answer slices as a loop over the listed rows fills them.
 use mathlib.Core.Path.{_≡_, refl, sym, ap, _∙_}
 use mathlib.Core.List.{List, [], _∷_, _++_, map}
 use Prim.Native.Nat.{ℕ, zero, suc, _+_, _≤_, _<_}

@@ -1,4 +1,4 @@
--- The agreement of a call, which is counted in rows, is that of ids. Assumes nothing.
+-- The agreement of a call, which is counted in rows, is that of ids.
 use mathlib.Core.Path.{_≡_, sym, ap, _∙_}
 use mathlib.Core.Bool.{Bool, true, cond}
 use lib.Dec.{eqb}

@@ -1,4 +1,4 @@
--- Each case is computed from the definitions. Assumes nothing.
+-- Each case is computed from the definitions.
 use mathlib.Core.Path.{_≡_, refl, ap}
 use mathlib.Core.Bool.{true}
 use mathlib.Core.List.{List, [], _∷_, map}

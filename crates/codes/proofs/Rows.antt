@@ -1,5 +1,5 @@
 -- Sums over the codes of a row, taken in parts. The laws are over lists of integers: of a cached row they are taken at
--- `codes l`, of a resident one at l itself. Assumes nothing.
+-- `codes l`, of a resident one at l itself.
 use mathlib.Core.Path.{_≡_, refl, sym, _∙_}
 use mathlib.Core.List.{List, [], _∷_, _++_}
 use mathlib.Core.Bool.{Bool, true, _&&_, and-assoc, and-true}

@@ -1,4 +1,4 @@
--- The coordinates of a vector and of a record, one by one: what holds of all holds of each, and a record's are f32. Assumes nothing.
+-- The coordinates of a vector and of a record, one by one: what holds of all holds of each, and a record's are f32.
 use mathlib.Core.Path.{_≡_, refl}
 use mathlib.Core.Bool.{Bool, true, not, _&&_, and-eq-true-iff}
 use mathlib.Core.List.{List, [], _∷_, map}

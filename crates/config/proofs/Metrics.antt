@@ -1,4 +1,4 @@
--- Which bytes name a metric. Assumes nothing.
+-- Which bytes name a metric.
 use mathlib.Core.Path.{_≡_, refl}
 use Prim.Native.Nat.{ℕ, zero, suc}
 use native.Mathlib.Omega.{arith}

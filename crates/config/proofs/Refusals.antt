@@ -1,4 +1,4 @@
--- What a chain of tests answers, and what a number of 0 says of the tests. Assumes nothing.
+-- What a chain of tests answers, and what a number of 0 says of the tests.
 use mathlib.Core.Path.{_≡_, refl, _∙_}
 use mathlib.Core.Bool.{Bool, true, false, cond}
 use Prim.Native.Nat.{ℕ, suc}

@@ -1,4 +1,4 @@
--- The vector test over floats and over patterns. Assumes nothing.
+-- The vector test over floats and over patterns.
 use mathlib.Core.Path.{_≡_, refl, sym, ap, _∙_}
 use mathlib.Core.Bool.{Bool, true, false, not, _&&_, _||_, and-true, and-assoc, or-true, Bool·beq, true≢false}
 use mathlib.Core.List.{List, [], _∷_, map}

@@ -1,6 +1,6 @@
 -- A row is too far by its norm n and its dot product d alone: with whole numbers M, R, H at most 2^20 times the root of n, that of the
 -- query's norm, and their product, the float H / 2^20 is at most the product of the two roots, since it is held and rounding keeps the
--- order; and H is so near that d * d * 64 ≤ t * n suffices for d / (H / 2^20) ≤ g / 2^16. Assumes nothing.
+-- order; and H is so near that d * d * 64 ≤ t * n suffices for d / (H / 2^20) ≤ g / 2^16.
 use mathlib.Core.Path.{_≡_, refl, sym, ap, _∙_}
 use mathlib.Core.Bool.{true, false, _&&_, true≢false}
 use Prim.Native.Nat.{ℕ, suc, _+_, _-_, _*_, _/_, _^_, _≤_, _<_}

@@ -1,5 +1,5 @@
 -- 1 - y, where y has no sign and is at most 1, is at most 1 - x held in 0..2, in the order of keys, where x has a sign or is at most
--- y: the roundings keep the order. Assumes nothing.
+-- y: the roundings keep the order.
 use mathlib.Core.Path.{_≡_, refl, _∙_}
 use mathlib.Core.Bool.{true, false, not, cond}
 use Prim.Native.Nat.{ℕ, _+_, _-_, _*_, _≤_}

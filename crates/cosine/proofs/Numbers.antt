@@ -1,4 +1,4 @@
--- What the code's tests and types say of its integers. Assumes nothing.
+-- What the code's tests and types say of its integers.
 use mathlib.Core.Path.{_≡_, refl}
 use mathlib.Core.Bool.{Bool, true, false, _||_, true≢false}
 use Prim.Native.Nat.{ℕ, _*_, _^_, _≤_, _<_}

@@ -1,4 +1,4 @@
--- The sum of bytes fits 32 bits, so that it can be read back where it was written. Assumes nothing.
+-- The sum of bytes fits 32 bits, so that it can be read back where it was written.
 use mathlib.Core.Path.{_≡_, refl, sym, ap, _∙_}
 use mathlib.Core.Bool.{true}
 use mathlib.Core.List.{List, [], _∷_, _++_}

@@ -1,4 +1,4 @@
--- The steps are linear over xor, and n steps undo a shift by n. Assumes nothing.
+-- The steps are linear over xor, and n steps undo a shift by n.
 use mathlib.Core.Path.{_≡_, refl, sym, ap, ap₂, _∙_}
 use mathlib.Core.List.{List, [], _∷_, _++_}
 use Prim.Native.Nat.{ℕ, zero, suc, _+_, _*_, _/_, _%_, _<_, _≤_}

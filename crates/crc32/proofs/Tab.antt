@@ -1,4 +1,4 @@
--- A table whose entry k is g k: read, and filled from the front. Assumes nothing.
+-- A table whose entry k is g k: read, and filled from the front.
 use mathlib.Core.Path.{_≡_, refl, ap, _∙_, sym}
 use mathlib.Core.Logic.{⊎-elim}
 use mathlib.Core.List.{List, [], _∷_, _++_}

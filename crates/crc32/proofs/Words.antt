@@ -1,4 +1,4 @@
--- The sum of n bytes is 8 * n steps on one number, which the tables do a byte of it at a time. Assumes nothing.
+-- The sum of n bytes is 8 * n steps on one number, which the tables do a byte of it at a time.
 use mathlib.Core.Path.{_≡_, refl, sym, ap, ap₂, _∙_}
 use mathlib.Core.List.{List, [], _∷_}
 use Prim.Native.Nat.{ℕ, suc, _+_, _*_, _-_, _/_, _%_, _^_, _<_, _≤_}

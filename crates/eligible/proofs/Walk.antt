@@ -1,4 +1,4 @@
--- The order of the ids handed in does not matter, and a cursor in the sorted ids finds the eligible rows. Assumes nothing.
+-- The order of the ids handed in does not matter, and a cursor in the sorted ids finds the eligible rows.
 use mathlib.Core.Path.{_≡_, refl, sym, ap, _∙_, fun-ext}
 use mathlib.Core.Logic.{⊎-elim, _≢_}
 use mathlib.Core.Bool.{Bool, true, false, _&&_}

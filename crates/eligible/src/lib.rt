@@ -27,7 +27,7 @@ pub fn order(ids: &[u64], work: &mut [u64])
 {
     le::copy(ids, work);
     let n = ids.len();
-    rank::heap_sort(&mut work[..n]);
+    rank::sort_numbers(&mut work[..n]);
 }
 
 // Whether the id is among the sorted ids, where all before the cursor are below it.

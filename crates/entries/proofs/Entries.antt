@@ -1,4 +1,4 @@
--- What the rules of segments and entries say of a row. Assumes nothing.
+-- What the rules of segments and entries say of a row.
 use mathlib.Core.Path.{_≡_}
 use mathlib.Core.Bool.{true}
 use mathlib.Core.List.{List}

@@ -1,5 +1,5 @@
 -- What an addition keeps: a sum of values that have no sign has none and is no less than each of them; and a difference
--- is -0 only where its first operand has a sign. Assumes nothing.
+-- is -0 only where its first operand has a sign.
 use mathlib.Core.Path.{_≡_, refl, sym, ap, _∙_}
 use mathlib.Core.Logic.{_⊎_, inl, inr}
 use mathlib.Core.Bool.{Bool, true, false, not, Bool·beq, cond, true≢false, false≢true}

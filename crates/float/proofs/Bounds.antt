@@ -1,5 +1,5 @@
 -- Bounds go through the operations: a larger operand gives a result that is no smaller, in size, and a bound that the
--- format holds is kept by the rounding. Assumes nothing.
+-- format holds is kept by the rounding.
 use mathlib.Core.Path.{_≡_, refl, sym, ap, _∙_, subst}
 use mathlib.Core.Bool.{Bool, true, false, not, _&&_, _||_, Bool·beq, cond, true≢false}
 use Prim.Native.Nat.{ℕ, zero, suc, _+_, _-_, _*_, _/_, _%_, _^_, _≤_, _<_, compare, Ordering, Ordering·lt, Ordering·eq, Ordering·gt}

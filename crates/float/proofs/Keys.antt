@@ -1,5 +1,5 @@
 -- The key's order is totalOrder's, on every number that is no NaN, the infinities among them; and the way back from a
--- key. Assumes nothing.
+-- key.
 use mathlib.Core.Path.{_≡_, ap, sym, _∙_}
 use mathlib.Core.Bool.{Bool, true, false, not, true≢false}
 use Prim.Native.Nat.{ℕ, _+_, _-_, _*_, _%_, _^_, _≤_, _<_}

@@ -1,5 +1,5 @@
 -- Numbers that are no NaN: which operations give one, that their order is total, and what the hold in a range and the
--- floor at 0 do. Assumes nothing.
+-- floor at 0 do.
 use mathlib.Core.Path.{_≡_, refl, sym, subst}
 use mathlib.Core.Logic.{_⊎_, inl, inr}
 use mathlib.Core.Bool.{Bool, true, false, not, _&&_, _||_, Bool·beq, cond, true≢false}

@@ -1,5 +1,5 @@
 -- What a pattern stands for, its size in units of the smallest number, its sign, and the order of patterns, over both
--- formats. Assumes nothing.
+-- formats.
 use mathlib.Core.Path.{_≡_, refl, ap, sym, _∙_, subst}
 use mathlib.Core.Logic.{_⊎_, inl, inr}
 use mathlib.Core.Bool.{Bool, true, false, cond, _&&_, and-true, and-false, false≢true}

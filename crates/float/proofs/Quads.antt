@@ -1,4 +1,4 @@
--- Four values. Assumes nothing.
+-- Four values.
 use mathlib.Core.Path.{_≡_, refl}
 use mathlib.Core.Bool.{Bool, true, false, _&&_, false≢true}
 use mathlib.Core.List.{[], _∷_}

@@ -1,5 +1,5 @@
 -- What a value that fits a format is: below 2 ^ (emax + 1), and the smallest value at least if it is not zero; and what
--- a value above zero is. Assumes nothing.
+-- a value above zero is.
 use mathlib.Core.Path.{_≡_, refl, sym, ap, _∙_, subst}
 use mathlib.Core.Bool.{Bool, true, false, _&&_, true≢false}
 use Prim.Native.Nat.{ℕ, zero, suc, _+_, _-_, _*_, _^_, _≤_, _<_, zero-le}

@@ -1,6 +1,5 @@
 -- totalOrder is a total order on all floats: of two one is not after the other, and what is not after is so along a chain.
 -- Two that are not after each other are one float where an f64 holds them; else 1 may be written in many ways.
--- Assumes nothing.
 use mathlib.Core.Path.{_≡_, refl, sym, ap, _∙_}
 use mathlib.Core.Logic.{_⊎_, inl, inr}
 use mathlib.Core.Bool.{Bool, true, false, not, cond, true≢false, Bool·not-not}

@@ -1,5 +1,5 @@
 -- Sizes of floats, for the laws of rounding: which is at most which, whatever the signs, and whether a format holds a
--- bound. Assumes nothing.
+-- bound.
 use Prim.Native.Nat.{ℕ, suc, _+_, _*_, _^_, _≤_}
 use mathlib.Core.Bool.{Bool, false, _&&_}
 use lib.IntN.{pos, negsuc}

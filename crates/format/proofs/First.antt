@@ -1,4 +1,4 @@
--- The first number that fails a test, as a loop over rising numbers finds it. Assumes nothing.
+-- The first number that fails a test, as a loop over rising numbers finds it.
 use mathlib.Core.Path.{_≡_, refl, sym, _∙_}
 use mathlib.Core.Bool.{Bool, true, false, cond}
 use Prim.Native.Nat.{ℕ, zero, suc, _+_, _-_, _≤_, _<_}

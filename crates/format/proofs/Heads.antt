@@ -1,4 +1,4 @@
--- What a head that passes its tests says of the manifest. Assumes nothing.
+-- What a head that passes its tests says of the manifest.
 use mathlib.Core.Path.{_≡_}
 use mathlib.Core.Bool.{Bool, true, _&&_, and-eq-true-iff}
 use mathlib.Core.List.{List}

@@ -1,4 +1,4 @@
--- The first of n that is refused, and one table's number before another's. Assumes nothing.
+-- The first of n that is refused, and one table's number before another's.
 use mathlib.Core.Path.{_≡_, refl, sym, ap, _∙_}
 use mathlib.Core.Bool.{Bool, true≢false}
 use Prim.Native.Nat.{ℕ, zero, suc, _+_, _≤_, _<_}

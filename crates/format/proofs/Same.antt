@@ -1,5 +1,4 @@
 -- The head test of a search: its comparison is equality, and against an accepted head it is document 01's sentence on 21.
--- Assumes nothing.
 use mathlib.Core.Path.{_≡_, refl, sym, ap, _∙_}
 use mathlib.Core.Bool.{true, _&&_}
 use mathlib.Core.Logic.{_↔_}

@@ -1,4 +1,4 @@
--- Opening passes 12 and 13 exactly where the cache has the size and begins with the head. Assumes nothing.
+-- Opening passes 12 and 13 exactly where the cache has the size and begins with the head.
 use mathlib.Core.Path.{_≡_, refl, sym, ap, _∙_}
 use mathlib.Core.Bool.{true}
 use mathlib.Core.List.{List, _++_, append-assoc}

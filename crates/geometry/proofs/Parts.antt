@@ -1,4 +1,4 @@
--- The parts of a cache's head: their lengths, one stored behind the other, and one compared after the other. Assumes nothing.
+-- The parts of a cache's head: their lengths, one stored behind the other, and one compared after the other.
 use mathlib.Core.Path.{_≡_, refl, sym, ap, _∙_}
 use mathlib.Core.Bool.{_&&_, and-assoc}
 use mathlib.Core.List.{List, [], _∷_, _++_, append-assoc}

@@ -1,4 +1,4 @@
--- What sizing's tests say of the numbers. Assumes nothing.
+-- What sizing's tests say of the numbers.
 use mathlib.Core.Path.{_≡_}
 use mathlib.Core.Bool.{true}
 use Prim.Native.Nat.{ℕ, _+_, _*_, _≤_}

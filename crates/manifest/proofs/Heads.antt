@@ -1,4 +1,4 @@
--- The head that a check hands out: the head test of a search against it is document 01's sentence on 21 (readings R3). Assumes nothing.
+-- The head that a check hands out: the head test of a search against it is document 01's sentence on 21 (readings R3).
 use mathlib.Core.Path.{_≡_}
 use mathlib.Core.Bool.{true}
 use mathlib.Core.Logic.{_↔_}

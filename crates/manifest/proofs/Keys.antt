@@ -1,4 +1,4 @@
--- A row's key: its parts, and its order. Assumes nothing.
+-- A row's key: its parts, and its order.
 use mathlib.Core.Path.{_≡_, refl, sym, _∙_}
 use mathlib.Core.Logic.{⊎-elim}
 use mathlib.Core.Bool.{true}

@@ -1,4 +1,4 @@
--- The rows of one segment after the other in the list of all. Assumes nothing.
+-- The rows of one segment after the other in the list of all.
 use mathlib.Core.Path.{_≡_, refl, sym, ap, _∙_}
 use mathlib.Core.Logic.{inl, inr, ⊎-elim}
 use mathlib.Core.Bool.{Bool, true, false, cond, true≢false}

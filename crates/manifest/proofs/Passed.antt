@@ -1,4 +1,4 @@
--- What an accepted manifest has passed. Assumes nothing.
+-- What an accepted manifest has passed.
 use mathlib.Core.Path.{_≡_, refl}
 use mathlib.Core.Bool.{true, cond}
 use mathlib.Core.List.{List}

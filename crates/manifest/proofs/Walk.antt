@@ -1,4 +1,4 @@
--- The walk over a segment's rows. Assumes nothing.
+-- The walk over a segment's rows.
 use mathlib.Core.Path.{_≡_, refl}
 use mathlib.Core.Bool.{false, _&&_}
 use mathlib.Core.List.{List, [], _∷_, map}

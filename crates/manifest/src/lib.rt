@@ -62,7 +62,7 @@ fn order(m: &[u8], layout: Layout, scratch: &mut [u64])
 {
     fill(m, layout, scratch);
     let rows = layout.rows;
-    rank::heap_sort(&mut scratch[..rows]);
+    rank::sort_numbers(&mut scratch[..rows]);
 }
 
 // How many of the keys, from the first on, are of segment n.

@@ -1,5 +1,5 @@
 -- Every original distance of two vectors that pass the vector test is finite and fits binary64. Squared L2 and cosine
--- have no sign, so that a zero is +0, and the cosine's lies in 0 .. 2. Assumes nothing.
+-- have no sign, so that a zero is +0, and the cosine's lies in 0 .. 2.
 use Rattle.config.proofs.Coordinates.{valid-parts}
 use mathlib.Core.Path.{_≡_, refl, sym, _∙_}
 use mathlib.Core.Bool.{Bool, true, false, cond, true≢false, false≢true}

@@ -1,5 +1,4 @@
 -- The coordinates of a vector and of a record, a sum a turn at a time, and the distance from its sums.
--- Assumes nothing.
 use mathlib.Core.Path.{_≡_, refl}
 use mathlib.Core.Bool.{true}
 use mathlib.Core.List.{List}

@@ -1,4 +1,4 @@
--- Four sums at once, a pair of each a turn. Assumes nothing.
+-- Four sums at once, a pair of each a turn.
 use Rattle.config.proofs.Coordinates.{valid-parts}
 use mathlib.Core.Path.{_≡_, ap, _∙_}
 use mathlib.Core.Bool.{true, _&&_, and-eq-true-iff}

@@ -1,5 +1,4 @@
 -- A sum of up to 4096 terms, each within 2 ^ k, is within 2 ^ (12 + k), and of terms that have no sign it has none.
--- Assumes nothing.
 use mathlib.Core.Path.{_≡_, refl}
 use mathlib.Core.List.{List, [], _∷_}
 use mathlib.Core.Bool.{true, false, _&&_, and-eq-true-iff}

@@ -1,4 +1,4 @@
--- What preparing refuses of an accepted library. Assumes nothing.
+-- What preparing refuses of an accepted library.
 use mathlib.Core.Path.{_≡_, refl, _∙_}
 use mathlib.Core.Bool.{Bool, true, false, cond}
 use mathlib.Core.List.{List}

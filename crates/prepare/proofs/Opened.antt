@@ -1,4 +1,4 @@
--- What preparing stores is opened: its length and head, each of its rows, and its CRC-32 pass. Assumes nothing.
+-- What preparing stores is opened: its length and head, each of its rows, and its CRC-32 pass.
 use mathlib.Core.Path.{_≡_, refl, sym, ap, _∙_}
 use mathlib.Core.Bool.{true}
 use mathlib.Core.List.{List, [], _∷_, _++_, map, append-assoc}

@@ -1,4 +1,4 @@
--- Head, rows and CRC-32 stored one after the other are the cache. Assumes nothing.
+-- Head, rows and CRC-32 stored one after the other are the cache.
 use mathlib.Core.Path.{_≡_, sym, ap, _∙_}
 use mathlib.Core.List.{List, _++_}
 use Prim.Native.Nat.{ℕ, _+_, _-_, _*_, _≤_}

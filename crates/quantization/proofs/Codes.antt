@@ -1,4 +1,4 @@
--- Codes as integers: a magnitude with a sign, as a byte and in wider types, the sum of squares, and the bound. Assumes nothing.
+-- Codes as integers: a magnitude with a sign, as a byte and in wider types, the sum of squares, and the bound.
 use mathlib.Core.Path.{_≡_, refl, _∙_}
 use mathlib.Core.Bool.{Bool, true, false, _&&_}
 use mathlib.Core.List.{List, [], _∷_, map}

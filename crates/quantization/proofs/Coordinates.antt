@@ -1,5 +1,5 @@
 -- A vector's coordinates by their patterns: the largest magnitude is the largest pattern's, and the scale and the codes follow
--- from it. Assumes nothing.
+-- from it.
 use mathlib.Core.Path.{_≡_, refl, sym, ap, _∙_}
 use mathlib.Core.Bool.{Bool, true, false, not, cond}
 use mathlib.Core.List.{List, [], _∷_, map}

@@ -1,4 +1,4 @@
--- What the encoder gives passes the row test, under every metric; with the bounds of its codes, norm and scale. Assumes nothing.
+-- What the encoder gives passes the row test, under every metric; with the bounds of its codes, norm and scale.
 use Rattle.config.proofs.Coordinates.{all-cons, patterns-fit}
 use mathlib.Core.Path.{_≡_, refl, sym, ap, _∙_, subst}
 use mathlib.Core.Bool.{true, false, not, _&&_, true≢false}

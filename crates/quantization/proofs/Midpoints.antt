@@ -1,4 +1,4 @@
--- The midpoints: their list, their order, the count of those not above a number, and the walk that counts. Assumes nothing.
+-- The midpoints: their list, their order, the count of those not above a number, and the walk that counts.
 use mathlib.Core.Path.{_≡_, refl, ap}
 use mathlib.Core.Bool.{Bool, true, false, not, cond, true≢false}
 use mathlib.Core.List.{List, [], _∷_}

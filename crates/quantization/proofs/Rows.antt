@@ -1,4 +1,4 @@
--- A row in bytes: it is written by one loop and two numbers, and reads back as itself. Assumes nothing.
+-- A row in bytes: it is written by one loop and two numbers, and reads back as itself.
 use mathlib.Core.Path.{_≡_, refl, ap, _∙_}
 use mathlib.Core.Bool.{true}
 use mathlib.Core.List.{List, _++_, map, append-nil, append-assoc, map-id, map-append}

@@ -1,5 +1,5 @@
 -- The part x / levels of an f32 above zero, and the quotient by it: at least levels - 1/2, so the largest coordinate's code is
--- the level count. And a vector's scale. For every level count from 1 to 127. Assumes nothing.
+-- the level count. And a vector's scale. For every level count from 1 to 127.
 use mathlib.Core.Path.{_≡_, sym, ap, _∙_}
 use mathlib.Core.Bool.{false, _&&_}
 use Prim.Native.Nat.{ℕ, _+_, _-_, _*_, _/_, _^_, _≤_, _<_}

@@ -1,4 +1,4 @@
--- The loop that stores codes, whatever a code is stored as: one turn, and its end. Assumes nothing.
+-- The loop that stores codes, whatever a code is stored as: one turn, and its end.
 use Rattle.config.proofs.Coordinates.{all-at, floats-at, patterns-fit}
 use mathlib.Core.Path.{_≡_, refl, sym, ap, _∙_}
 use mathlib.Core.Bool.{true}

@@ -1,5 +1,5 @@
 -- The walk over the lent table: it starts at the whole number nearest to x, found by one addition (z + 2 ^ 52 keeps no digit below 1, so its
--- pattern counts), and ends at the last midpoint. Assumes nothing.
+-- pattern counts), and ends at the last midpoint.
 use mathlib.Core.Path.{_≡_, ap, _∙_, sym, subst, refl}
 use mathlib.Core.Bool.{false, not, true, true≢false}
 use mathlib.Core.List.{List}

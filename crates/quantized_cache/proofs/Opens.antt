@@ -1,4 +1,4 @@
--- Where the rows of a cache lie, and what the tests before them say. Assumes nothing.
+-- Where the rows of a cache lie, and what the tests before them say.
 use mathlib.Core.Path.{_≡_}
 use mathlib.Core.List.{List}
 use Prim.Native.Nat.{ℕ, suc, _+_, _-_, _*_, _≤_, _<_}

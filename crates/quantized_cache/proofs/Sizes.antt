@@ -1,4 +1,4 @@
--- What the tests up to sizing's say of a library. Assumes nothing.
+-- What the tests up to sizing's say of a library.
 use mathlib.Core.Path.{_≡_}
 use mathlib.Core.List.{List}
 use Prim.Native.Nat.{ℕ}

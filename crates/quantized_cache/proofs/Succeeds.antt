@@ -1,4 +1,4 @@
--- What an opening that refuses nothing says of the cache, whoever wrote it. Assumes nothing.
+-- What an opening that refuses nothing says of the cache, whoever wrote it.
 use mathlib.Core.Path.{_≡_, refl, ap, _∙_}
 use mathlib.Core.Logic.{_↔_}
 use mathlib.Core.Bool.{true, cond, and-eq-true-iff}

@@ -1,4 +1,4 @@
--- Two tests that agree on a list's elements: the least are the same, and so is what holds of limits. Assumes nothing.
+-- Two tests that agree on a list's elements: the least are the same, and so is what holds of limits.
 use mathlib.Core.Path.{_≡_, refl, sym, ap, _∙_}
 use mathlib.Core.Logic.{inl, inr}
 use mathlib.Core.Bool.{Bool}

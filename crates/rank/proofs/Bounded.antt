@@ -1,4 +1,4 @@
--- What a bounded heap keeps of one element more. Assumes nothing.
+-- What a bounded heap keeps of one element more.
 use mathlib.Core.Path.{_≡_, refl, sym, ap, _∙_}
 use mathlib.Core.Logic.{inr, _≢_}
 use mathlib.Core.List.{List, [], _∷_, _++_}

@@ -1,4 +1,4 @@
--- `byKey` is the order by key and then by row, and total. Assumes nothing.
+-- `byKey` is the order by key and then by row, and total.
 use mathlib.Core.Path.{_≡_, sym, _∙_}
 use mathlib.Core.Bool.{true, false, cond}
 use Prim.Native.Nat.{ℕ, _≤_}

@@ -1,5 +1,4 @@
 -- What holds of the k least of a list: they are what `Least` says, and what changes where the list grows.
--- Assumes nothing.
 use mathlib.Core.Path.{_≡_, refl, sym, ap, _∙_}
 use mathlib.Core.Logic.{_⊎_, inl, inr, ⊎-elim, ⊎-map}
 use mathlib.Core.Bool.{Bool, true, false, true≢false}

@@ -1,5 +1,5 @@
 -- An order of rows by a first test on something that each has, and where that decides nothing by a number. It is total
--- where the test is one way and what is not before is so along a chain. Assumes nothing.
+-- where the test is one way and what is not before is so along a chain.
 use mathlib.Core.Path.{_≡_, sym, _∙_}
 use mathlib.Core.Logic.{_⊎_, inl, inr}
 use mathlib.Core.Bool.{Bool, true, false, cond, true≢false, false≢true}

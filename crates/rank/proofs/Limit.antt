@@ -1,4 +1,4 @@
--- `LimitTheorem` holds, whatever the approximate order: with more candidates the list only gets better. Assumes nothing.
+-- `LimitTheorem` holds, whatever the approximate order: with more candidates the list only gets better.
 use mathlib.Core.Path.{_≡_}
 use mathlib.Core.Logic.{⊎-elim}
 use mathlib.Core.Bool.{Bool, true}

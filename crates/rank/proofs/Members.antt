@@ -1,4 +1,4 @@
--- Membership, and relations between the elements of a list. Assumes nothing.
+-- Membership, and relations between the elements of a list.
 use mathlib.Core.Path.{_≡_, refl, sym}
 use mathlib.Core.Logic.{_⊎_, inl, inr, ⊎-elim, ⊎-map}
 use mathlib.Core.List.{List, [], _∷_, _++_, map}

@@ -1,4 +1,4 @@
--- The order of numbers, as a test and by cases. Assumes nothing.
+-- The order of numbers, as a test and by cases.
 use mathlib.Core.Path.{_≡_, sym, _∙_}
 use mathlib.Core.Logic.{_⊎_, inl, inr, _≢_}
 use mathlib.Core.Bool.{Bool, true, false}

@@ -1,5 +1,5 @@
 -- (distance, id) order is total, NaNs included, and where distances are numbers and ids rise with rows it is (key, row)
--- order: the key's order is totalOrder's. So the limit theorem holds in document 01's own order. Assumes nothing.
+-- order: the key's order is totalOrder's. So the limit theorem holds in document 01's own order.
 use mathlib.Core.Path.{_≡_, refl, sym, _∙_}
 use mathlib.Core.Bool.{Bool, true, false, not}
 use mathlib.Core.List.{List}

@@ -1,4 +1,4 @@
--- Rows that were kept by one key, sorted by their number and then by another key. Assumes nothing.
+-- Rows that were kept by one key, sorted by their number and then by another key.
 use mathlib.Core.Path.{_≡_, sym, ap, _∙_}
 use mathlib.Core.List.{List, map, Permᴰ·map}
 use Prim.Native.Nat.{ℕ, _^_, _<_, _%_}

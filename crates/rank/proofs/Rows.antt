@@ -1,5 +1,4 @@
 -- The rows below n that pass: these and no others, rising, how many, and what one row more adds; rows below a bound.
--- Assumes nothing.
 use mathlib.Core.Path.{_≡_, refl, ap, _∙_}
 use mathlib.Core.Logic.{inl, inr, ⊎-elim}
 use mathlib.Core.Bool.{Bool, true, false}

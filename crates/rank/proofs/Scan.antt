@@ -1,5 +1,5 @@
 -- A scan over rows: each row that passes goes to `keep_best` with its key, and what is kept, sorted, is the least rows
--- by key: document 01's candidates, where the slices' length is the limit. Assumes nothing.
+-- by key: document 01's candidates, where the slices' length is the limit.
 use mathlib.Core.Path.{_≡_}
 use mathlib.Core.Bool.{Bool, true, false}
 use mathlib.Core.List.{List, map, map-append}

@@ -1,4 +1,4 @@
--- Which numbers are among a list, and how many two lists share. Assumes nothing.
+-- Which numbers are among a list, and how many two lists share.
 use mathlib.Core.Path.{_≡_, refl, sym, _∙_}
 use mathlib.Core.Logic.{inl, inr}
 use mathlib.Core.Bool.{Bool, true, false, cond, false≢true}

@@ -1,7 +1,6 @@
 -- The lists of document 01, The report, over row numbers: "Candidates are the min(limit, eligible) least by approximate
 -- order; the list is the min(k, eligible) least of those by original order." And what holds of them at two limits:
 -- "In demand 3, .. A search succeeds when no check refuses it, and then reports and lists what is defined above."
--- Assumes nothing.
 use mathlib.Core.Path.{_≡_}
 use mathlib.Core.Bool.{Bool, true, false, cond, _||_}
 use mathlib.Core.List.{List, [], _∷_}

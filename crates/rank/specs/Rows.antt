@@ -1,5 +1,5 @@
 -- The eligible rows of a library. Document 01, The report: "the eligible count is that of the library's rows whose id
--- is among them, each once." Assumes nothing.
+-- is among them, each once."
 use mathlib.Core.Bool.{Bool, cond}
 use mathlib.Core.List.{List, [], _∷_, _++_}
 use Prim.Native.Nat.{ℕ, zero, suc, _<_}

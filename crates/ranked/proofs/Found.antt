@@ -1,4 +1,4 @@
--- What scan, rerank and count leave, in the words of a call: its candidates by original order; and from there its list. Assumes nothing.
+-- What scan, rerank and count leave, in the words of a call: its candidates by original order; and from there its list.
 use mathlib.Core.Path.{_≡_, refl, sym, ap, _∙_}
 use mathlib.Core.Bool.{Bool, true, cond, _&&_}
 use mathlib.Core.List.{List, [], _∷_, _++_, map}

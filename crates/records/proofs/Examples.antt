@@ -1,4 +1,4 @@
--- Records handed out, computed from the definitions. Assumes nothing.
+-- Records handed out, computed from the definitions.
 use mathlib.Core.Path.{_≡_, refl}
 use mathlib.Core.List.{[], _∷_}
 use Rattle.le.specs.Le.{paste}

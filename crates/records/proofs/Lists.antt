@@ -1,4 +1,4 @@
--- Records stored one after the other, and where the plan lets them be. Assumes nothing.
+-- Records stored one after the other, and where the plan lets them be.
 use mathlib.Core.Path.{_≡_, refl, sym, ap, _∙_}
 use Prim.Native.Nat.{ℕ, _+_, _≤_, _<_, zero-le}
 use native.Mathlib.Omega.{arith}

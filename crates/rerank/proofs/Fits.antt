@@ -1,4 +1,4 @@
--- Every original distance is a value of an f64. Assumes nothing.
+-- Every original distance is a value of an f64.
 use mathlib.Core.Bool.{cond}
 use mathlib.Core.List.{List, [], _∷_}
 use lib.Dec.{T}

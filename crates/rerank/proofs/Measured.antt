@@ -1,4 +1,4 @@
--- A loop over rows in their order: those before i are not refused, and their keys stand in ks. Assumes nothing.
+-- A loop over rows in their order: those before i are not refused, and their keys stand in ks.
 use mathlib.Core.Path.{_≡_, refl, sym, ap, _∙_}
 use mathlib.Core.Bool.{true, false, true≢false, false≢true}
 use mathlib.Core.List.{List, map, map-append}

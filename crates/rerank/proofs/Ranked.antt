@@ -1,4 +1,4 @@
--- The candidates by original order: by key and row that is document 01's own order. Assumes nothing.
+-- The candidates by original order: by key and row that is document 01's own order.
 use mathlib.Core.Path.{_≡_, sym, ap, _∙_}
 use mathlib.Core.Bool.{true}
 use mathlib.Core.List.{List, map}

@@ -1,4 +1,4 @@
--- The record of a row: what its tests say, and what it yields. Assumes nothing.
+-- The record of a row: what its tests say, and what it yields.
 use mathlib.Core.Path.{_≡_}
 use mathlib.Core.Bool.{true, false, not}
 use mathlib.Core.List.{List}

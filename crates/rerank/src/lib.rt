@@ -234,7 +234,7 @@ pub fn rerank(
     requires { ⌜ Located (now m) layout metric (now starts) × Asked (now m) metric (now q) «q_inverse» × RowsBelow (layout .rows) (now rs) × (length (now ks) ≡ length (now rs)) ⌝ }
     ensures { λ r. ⌜ ((candidates : List ℕ) → sort leb (now (rs .entry)) ≡ sort leb candidates → RerankIs (now (m .entry)) (now (s .entry)) (now (q .entry)) candidates r (now (ks .exit)) (now (rs .exit))) ⌝ }
 {
-    rank::heap_sort(rs);
+    rank::sort_numbers(rs);
     let r = measure_rows(m, layout, metric, starts, s, q, q_inverse, ks, rs);
     if r.refusal.number == 0 {
         rank::heap_sort_pairs(ks, rs);

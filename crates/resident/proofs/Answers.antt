@@ -1,4 +1,4 @@
--- What building answers, by the numbers of its tests. Assumes nothing.
+-- What building answers, by the numbers of its tests.
 use mathlib.Core.Path.{_≡_, sym}
 use mathlib.Core.Bool.{true}
 use mathlib.Core.List.{List}

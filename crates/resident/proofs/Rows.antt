@@ -1,4 +1,4 @@
--- Where a row's codes lie, and what the encoder asks of a good record. Assumes nothing.
+-- Where a row's codes lie, and what the encoder asks of a good record.
 use mathlib.Core.Path.{_≡_}
 use mathlib.Core.Bool.{true}
 use mathlib.Core.List.{List}

@@ -1,5 +1,5 @@
 -- What building leaves: each row of the slices is the encoder's own of its record; and a library that the segment check lets pass is
--- refused by 8 or 11 alone. Assumes nothing.
+-- refused by 8 or 11 alone.
 use mathlib.Core.Path.{_≡_, refl, sym, ap, _∙_}
 use mathlib.Core.Bool.{true}
 use mathlib.Core.Logic.{_↔_}

@@ -1,4 +1,4 @@
--- The root at numbers, computed. Assumes nothing.
+-- The root at numbers, computed.
 use mathlib.Core.Path.{_≡_, refl}
 use mathlib.Core.Bool.{true, false}
 use lib.IntN.{pos, negsuc}

@@ -1,5 +1,5 @@
 -- A float's 53 digits and exponent from its bits, the root's pattern from its digits, and the root of every kind of
--- input. Assumes nothing.
+-- input.
 use mathlib.Core.Path.{_≡_, refl, ap, _∙_, sym, subst}
 use mathlib.Core.Bool.{Bool, true, false, false≢true}
 use Prim.Native.Nat.{ℕ, zero, suc, _+_, _-_, _*_, _/_, _%_, _^_, _≤_, _<_}

@@ -1,4 +1,4 @@
--- `sqrtOf` meets `IsRoot`, and nothing else that fits does; and how large a root is. Assumes nothing.
+-- `sqrtOf` meets `IsRoot`, and nothing else that fits does; and how large a root is.
 use mathlib.Core.Path.{_≡_, refl, sym, ap, _∙_, subst}
 use mathlib.Core.Bool.{Bool, true, false, _&&_}
 use Prim.Native.Nat.{ℕ, zero, suc, _+_, _-_, _*_, _/_, _^_, _≤_, _<_}

@@ -1,5 +1,5 @@
 -- Whole numbers nearest to a root: squares in two digits of 53 bits, what nearest means by them, and the correction of
--- a guess. Assumes nothing.
+-- a guess.
 use mathlib.Core.Path.{_≡_, refl, ap, _∙_, sym}
 use Prim.Native.Nat.{ℕ, zero, suc, _+_, _-_, _*_, _/_, _%_, _^_, _≤_, _<_}
 use native.Mathlib.Nat.{mul-add, add-mul, mul-assoc, mul-comm, mul-left-comm, add-assoc, add-comm, add-left-comm, mul-le-mul, mul-mul-mul-comm, mul-one, one-mul, div-add-mod'}

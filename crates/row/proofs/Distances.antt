@@ -1,4 +1,4 @@
--- A whole number as a float, a count by its bits, and what a distance answers. Assumes nothing.
+-- A whole number as a float, a count by its bits, and what a distance answers.
 use mathlib.Core.Path.{_≡_, refl}
 use mathlib.Core.Bool.{true, false, false≢true, true≢false}
 use Prim.Native.Nat.{ℕ, suc, _-_, _≤_, _<_, _^_}

@@ -1,5 +1,5 @@
 -- The approximate distance of two rows that pass the row test, of up to 4096 codes each and with scales that an encoder gives, is finite,
--- so that 22 is never given of rows of the encoder. Every distance fits. Assumes nothing.
+-- so that 22 is never given of rows of the encoder. Every distance fits.
 use mathlib.Core.Path.{_≡_, refl, _∙_}
 use mathlib.Core.Bool.{Bool, true, false, cond, and-false}
 use mathlib.Core.List.{List, [], _∷_}

@@ -1,4 +1,4 @@
--- What a row's answer is, in the words of `refusalOf` and `valueOf`, and what each of its cases says of the row. Assumes nothing.
+-- What a row's answer is, in the words of `refusalOf` and `valueOf`, and what each of its cases says of the row.
 use mathlib.Core.Path.{_≡_, refl, sym, ap}
 use mathlib.Core.Bool.{Bool, true, false, not, cond, _&&_, true≢false}
 use Prim.Native.Nat.{ℕ}

@@ -1,4 +1,4 @@
--- Parts one after the other, and their stores into a lent slice. Over any element. Assumes nothing.
+-- Parts one after the other, and their stores into a lent slice. Over any element.
 use mathlib.Core.Path.{_≡_, refl, sym, ap, _∙_}
 use mathlib.Core.List.{List, [], _∷_, _++_, append-nil, append-assoc}
 use mathlib.Core.Logic.{⊎-elim}

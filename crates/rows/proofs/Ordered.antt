@@ -1,4 +1,4 @@
--- Records read in their own order. Assumes nothing.
+-- Records read in their own order.
 use mathlib.Core.Path.{_≡_, sym, ap, _∙_}
 use mathlib.Core.Bool.{true}
 use mathlib.Core.List.{List, map}

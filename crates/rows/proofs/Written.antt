@@ -1,4 +1,4 @@
--- What a record that passes gives the encoder, and what the encoder makes of it. Assumes nothing.
+-- What a record that passes gives the encoder, and what the encoder makes of it.
 use mathlib.Core.Path.{_≡_, _∙_}
 use mathlib.Core.Bool.{true}
 use mathlib.Core.List.{List}

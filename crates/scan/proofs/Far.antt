@@ -1,4 +1,4 @@
--- A row that is turned away under cosine has an answer that is turned away. Assumes nothing.
+-- A row that is turned away under cosine has an answer that is turned away.
 use mathlib.Core.Path.{_≡_, refl, sym, ap, _∙_, subst}
 use mathlib.Core.Logic.{inl, inr}
 use mathlib.Core.Bool.{Bool, true, false, _&&_, and-eq-true-iff, true≢false, false≢true}

@@ -1,4 +1,4 @@
--- A scan over rising rows: what one row adds, whatever the rows are seen by. Assumes nothing.
+-- A scan over rising rows: what one row adds, whatever the rows are seen by.
 use mathlib.Core.Path.{_≡_, refl, sym, ap, _∙_}
 use mathlib.Core.Logic.{_⊎_, inl, inr, ⊎-elim}
 use mathlib.Core.Bool.{Bool, true, false, not, false≢true}

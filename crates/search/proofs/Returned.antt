@@ -1,4 +1,4 @@
--- What an entry returns of a call, and its working slices where none is lent for ids. Assumes nothing.
+-- What an entry returns of a call, and its working slices where none is lent for ids.
 use mathlib.Core.Path.{_≡_}
 use mathlib.Core.List.{List, [], _∷_}
 use Prim.Native.Nat.{ℕ}

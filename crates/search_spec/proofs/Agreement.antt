@@ -1,4 +1,4 @@
--- The agreement call leaves the answer slices as the search would (document 01, The report). Assumes nothing.
+-- The agreement call leaves the answer slices as the search would (document 01, The report).
 use mathlib.Core.Path.{_≡_, refl, sym, ap, _∙_}
 use mathlib.Core.Bool.{true}
 use mathlib.Core.Logic.{inl, inr, ⊎-elim}

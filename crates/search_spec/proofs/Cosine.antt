@@ -1,5 +1,5 @@
 -- A second library, under cosine: two segments, metadata, rows whose approximate order is not their own, and records that do not lie in the
--- order of rows. Its calls are computed from the definitions. Assumes nothing.
+-- order of rows. Its calls are computed from the definitions.
 use mathlib.Core.Path.{_≡_}
 use mathlib.Core.Bool.{true, false}
 use mathlib.Core.List.{List, [], _∷_, _++_, map}

@@ -1,5 +1,5 @@
 -- Document 01's worked example, computed from the definitions: "On generation 3, sequence 7, L2, ids 1 (127, 0) and 2 (127, 0.25), query
--- (127, 0.25), k 1, limit 1", and limit 2. Assumes nothing.
+-- (127, 0.25), k 1, limit 1", and limit 2.
 use mathlib.Core.Path.{_≡_}
 use mathlib.Core.Bool.{Bool, true, false}
 use mathlib.Core.List.{List, [], _∷_, _++_, map}

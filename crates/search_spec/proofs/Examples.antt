@@ -1,4 +1,4 @@
--- The examples, each call computed from the definitions. Assumes nothing.
+-- The examples, each call computed from the definitions.
 use mathlib.Core.Path.{_≡_, refl}
 use mathlib.Core.Bool.{true, false, _&&_, _||_}
 use mathlib.Core.List.{[], _∷_, map}

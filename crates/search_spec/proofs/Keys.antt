@@ -1,5 +1,5 @@
 -- What the tests after 20 say where they pass, and with it the candidates, the list and the exact list by keys: of the approximate distance, and
--- of the original one. The candidates of slices of min(limit, rows) elements are those of the limit. Assumes nothing.
+-- of the original one. The candidates of slices of min(limit, rows) elements are those of the limit.
 use mathlib.Core.Path.{_≡_, sym, _∙_}
 use mathlib.Core.Bool.{Bool, true, false, cond}
 use mathlib.Core.List.{List}

@@ -1,4 +1,4 @@
--- What a call that succeeds has passed, and what it leaves. Assumes nothing.
+-- What a call that succeeds has passed, and what it leaves.
 use mathlib.Core.Path.{_≡_, refl, sym, ap, _∙_}
 use mathlib.Core.Bool.{true, false}
 use mathlib.Core.List.{List, [], _∷_, map, map-map, map-id}

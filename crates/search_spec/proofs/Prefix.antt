@@ -1,6 +1,5 @@
 -- Places at which two sorted lists hold the same: where each element of the first is in the second, these are the places before the first at
 -- which they differ, and as many as elements of the first come before the least element of the second that it lacks (readings R27).
--- Assumes nothing.
 use mathlib.Core.Path.{_≡_, refl, sym, _∙_}
 use mathlib.Core.Logic.{_≢_, inl, inr, ⊎-elim}
 use mathlib.Core.Bool.{Bool, true, false, true≢false, cond}

@@ -1,5 +1,4 @@
 -- What is reported of a call that succeeds, and what its answer slices hold: their lengths stay, and so do their elements past the list.
--- Assumes nothing.
 use mathlib.Core.Path.{_≡_, refl, _∙_}
 use mathlib.Core.Bool.{true, cond, _&&_}
 use mathlib.Core.List.{List, map}

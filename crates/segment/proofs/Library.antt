@@ -1,5 +1,4 @@
 -- What an accepted library is: its entries lie in the segments, ids rise, each record passes its test; and such a library is accepted.
--- Assumes nothing.
 use mathlib.Core.Path.{_≡_, ap}
 use mathlib.Core.Bool.{true, cond}
 use mathlib.Core.Logic.{_↔_}

@@ -1,4 +1,4 @@
--- Where segments and records lie in the slice. Assumes nothing.
+-- Where segments and records lie in the slice.
 use mathlib.Core.Path.{_≡_, refl, sym, _∙_}
 use mathlib.Core.Bool.{true}
 use mathlib.Core.List.{List, map}

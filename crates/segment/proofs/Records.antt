@@ -1,4 +1,4 @@
--- A record that passes its test, part by part. Assumes nothing.
+-- A record that passes its test, part by part.
 use mathlib.Core.Path.{_≡_}
 use mathlib.Core.Bool.{true, _&&_}
 use mathlib.Core.List.{List}

@@ -1,4 +1,4 @@
--- Kept rows by original order, and their agreement with all eligible rows. Assumes nothing.
+-- Kept rows by original order, and their agreement with all eligible rows.
 use mathlib.Core.Path.{_≡_, refl, sym, ap, _∙_}
 use mathlib.Core.Bool.{Bool, true, false, cond}
 use mathlib.Core.Logic.{⊎-elim}

@@ -1,4 +1,4 @@
--- What the scan keeps is what the rerank takes. Assumes nothing.
+-- What the scan keeps is what the rerank takes.
 use mathlib.Core.Path.{_≡_, sym, ap, _∙_}
 use mathlib.Core.Bool.{Bool, cond}
 use mathlib.Core.List.{List, map, _++_}

@@ -1,4 +1,4 @@
--- Two kinds of rows that agree are searched alike; demand 3, (4). Assumes nothing.
+-- Two kinds of rows that agree are searched alike; demand 3, (4).
 use mathlib.Core.Path.{_≡_, sym, ap, _∙_}
 use mathlib.Core.List.{List}
 use Prim.Native.Nat.{ℕ, _<_}

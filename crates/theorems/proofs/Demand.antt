@@ -1,4 +1,4 @@
--- Demand 3, whole. Assumes nothing.
+-- Demand 3, whole.
 use Rattle.search_spec.specs.Kept.{cachedRows, residentRows}
 use Rattle.theorems.specs.Demand.{Demand}
 use Rattle.theorems.proofs.Improves.{lists, improves-cached, improves-resident}

@@ -1,5 +1,5 @@
 -- A library that is accepted, with the CRC-32s of its bytes; its prepared cache, opened, and its built slices; and calls that share all but their
--- limits. Assumes nothing.
+-- limits.
 use mathlib.Core.Path.{_≡_, refl, sym, ap, _∙_}
 use mathlib.Core.Bool.{Bool, true, false}
 use mathlib.Core.Logic.{inl, inr}

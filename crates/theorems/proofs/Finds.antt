@@ -1,4 +1,4 @@
--- Demand 3, (5): none of the numbers from 16 to 24 occurs. Assumes nothing.
+-- Demand 3, (5): none of the numbers from 16 to 24 occurs.
 use mathlib.Core.Path.{_≡_, ap, _∙_}
 use mathlib.Core.Bool.{true}
 use mathlib.Core.List.{List}

@@ -1,4 +1,4 @@
--- Demand 3, (1) to (3). Assumes nothing.
+-- Demand 3, (1) to (3).
 use mathlib.Core.Path.{_≡_, refl, sym, ap, ap₂, _∙_}
 use mathlib.Core.Bool.{Bool, true}
 use mathlib.Core.List.{List}

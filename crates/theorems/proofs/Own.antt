@@ -1,5 +1,4 @@
 -- What prepared and built rows are to a search: their heads are the library's, they have their lengths, and their rows are the encoder's own.
--- Assumes nothing.
 use mathlib.Core.Path.{_≡_, refl, ap, _∙_}
 use mathlib.Core.Bool.{true}
 use mathlib.Core.List.{List}

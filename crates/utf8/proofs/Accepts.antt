@@ -1,4 +1,4 @@
--- `valid` is true exactly of RFC 3629's UTF8-octets. Assumes nothing.
+-- `valid` is true exactly of RFC 3629's UTF8-octets.
 use mathlib.Core.Path.{_≡_, refl}
 use mathlib.Core.Logic.{_⊎_, inl, inr, ⊎-elim}
 use mathlib.Core.Bool.{Bool, true, false, _&&_, _||_, or-true, false≢true}

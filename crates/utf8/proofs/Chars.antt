@@ -1,4 +1,4 @@
--- The first character of a list that is long enough or ends, by the tests of the grammar. Assumes nothing.
+-- The first character of a list that is long enough or ends, by the tests of the grammar.
 use mathlib.Core.Path.{_≡_, refl, sym, ap, _∙_}
 use mathlib.Core.Bool.{Bool, true, false, and-false, or-false, false≢true}
 use mathlib.Core.List.{List, [], _∷_}

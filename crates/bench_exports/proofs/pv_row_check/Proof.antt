@@ -1,4 +1,3 @@
--- Assumes nothing.
 use borrow.Author.Needs.{needs}
 use Rattle.bench_exports.proofs.Out.{stored}
 use Rattle.bench_exports.proofs.pv_row_check.Statement.{statement}

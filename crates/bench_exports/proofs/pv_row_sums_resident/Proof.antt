@@ -1,4 +1,3 @@
--- Assumes nothing.
 use borrow.Author.Needs.{needs}
 use Rattle.codes.proofs.Rows.{dot-held}
 use Rattle.bench_exports.proofs.Out.{stored}

@@ -13,7 +13,7 @@ returns : tie.Need-returns
 returns c =
     let b = c .before .before .before .before .before .before .before .before .before .before in
     let ids = b .args .ids .now in
-    rw (c .before .before .heap-sort .ensures, c .before .before .before .before .before .before .copy .ensures) (sort-front leb (length ids) ids (drop (length ids) (b .args .work .now)) refl)
+    rw (c .before .before .sort-numbers .ensures, c .before .before .before .before .before .before .copy .ensures) (sort-front leb (length ids) ids (drop (length ids) (b .args .work .now)) refl)
 
 pub order-spec : {M : Type 1} → statement M
 order-spec =

@@ -1,4 +1,3 @@
--- Assumes nothing.
 use borrow.Author.Needs.{needs}
 use Rattle.exports.specs.Search.{numbersOf}
 use Rattle.exports.proofs.Out.{bool-number}

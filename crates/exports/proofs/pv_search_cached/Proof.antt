@@ -1,4 +1,3 @@
--- Assumes nothing.
 use borrow.Author.Needs.{needs}
 use mathlib.Core.Path.{ap, _∙_}
 use Rattle.exports.specs.Search.{numbersOf}

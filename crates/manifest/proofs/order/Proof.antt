@@ -21,7 +21,7 @@ returns c =
     let n = b .args .layout .rows in
     let f = c .before .before .before .before .before .before .fill .ensures in
     let a = map (key m) (passing (λ r. true) (rowsOf m)) in
-    rw (c .before .before .heap-sort .ensures, f, b .pre .0 .rows) (sort-front leb (rowsOf m) a (drop (rowsOf m) t) (count-keys m (rowsOf m)) ∙ ap (λ k. k ++ drop (rowsOf m) t) (sort-keys m (b .pre .2) (b .pre .0 .most)))
+    rw (c .before .before .sort-numbers .ensures, f, b .pre .0 .rows) (sort-front leb (rowsOf m) a (drop (rowsOf m) t) (count-keys m (rowsOf m)) ∙ ap (λ k. k ++ drop (rowsOf m) t) (sort-keys m (b .pre .2) (b .pre .0 .most)))
 
 pub order-spec : {M : Type 1} → statement M
 order-spec =

@@ -1,6 +1,6 @@
 -- `records` meets its contract: its MIR walked by hand, with a call before the loop, and a call and a store in each turn. Of `planned` and
 -- `record_at` only the contracts are known. In a turn the borrow of `out` is opened, one element is taken out and stored to, and the borrow
--- is closed at the new list. Assumes nothing.
+-- is closed at the new list.
 use mathlib.Core.Path.{_≡_, refl, sym, ap, _∙_, subst}
 use Prim.Native.Nat.{ℕ, _+_, _-_, _≤_, _<_, _^_, zero-le}
 use native.Mathlib.Nat.{le-antisymm, le-of-lt, lt-of-lt-of-le}

@@ -1,4 +1,4 @@
--- The loop passes a character a turn: what is left is valid exactly where the whole is. Assumes nothing.
+-- The loop passes a character a turn: what is left is valid exactly where the whole is.
 use mathlib.Core.Path.{_≡_, refl, sym, ap, _∙_}
 use Prim.Native.Nat.{_+_, _-_, _≤_}
 use borrow.Author.Needs.{needs}
