@@ -22,7 +22,7 @@ use Rattle.search_spec.proofs.Prefix.{Part, Agrees}
 use Rattle.rerank.specs.Rerank.{keyAt, measureAt}
 use Rattle.rerank.specs.declared.Measure.the-variants.{Key, Refused}
 use Rattle.rerank.proofs.Records.{key-of, refusal-of}
-use Rattle.agreement.specs.Count.{notAfter, AheadIs, Listed, CountIs, allRanked}
+use Rattle.agreement.specs.Count.{keyNotAfter, AheadIs, Listed, CountIs, allRanked}
 use Rattle.agreement.proofs.Places.{agrees-start, agrees-turn, agrees-all}
 use Rattle.agreement.proofs.Records.{RecordsTo, records-start, records-skip, records-turn, records-stop, records-end}
 
@@ -55,7 +55,7 @@ module _ {m s : List ℕ} {q : List Float} {ok : ℕ → Bool} {ks rs : List ℕ
     pub counting-skip : ok row ≡ false → Counting m s q ok rs (row + 1) n
     counting-skip e = record { records = records-skip m s q ok (C .records) e; agrees = rw (passing-skip ok row e) (C .agrees) }
 
-    pub counting-turn : {k r : ℕ} → row < rowsOf m → ok row ≡ true → Key k ≡ measureAt m s q row → AheadIs (notAfter ks rs k row) rs n row r → Counting m s q ok rs (row + 1) r
+    pub counting-turn : {k r : ℕ} → row < rowsOf m → ok row ≡ true → Key k ≡ measureAt m s q row → AheadIs (keyNotAfter ks rs k row) rs n row r → Counting m s q ok rs (row + 1) r
     counting-turn {k} {r} h e y H =
         let t = key-of (recordRefusal m s q row) (keyAt m s q row) y in
         record {

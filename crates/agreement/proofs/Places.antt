@@ -17,7 +17,7 @@ use Rattle.rank.proofs.Numbers.{eq-or-ne}
 use Rattle.rank.proofs.ByKey.{order}
 use Rattle.search_spec.specs.Outcome.{samePlaces}
 use Rattle.search_spec.proofs.Prefix.{Part, Agrees, same-prefix, prefix-agrees}
-use Rattle.agreement.specs.Count.{notAfter, FirstIs, AheadIs}
+use Rattle.agreement.specs.Count.{keyNotAfter, FirstIs, AheadIs}
 
 -- ---- the search for a place
 
@@ -59,7 +59,7 @@ module _ (key : ℕ → ℕ) (ks l : List ℕ) (keys : ks ≡ map key l) (up : A
   abbrev le : ℕ → ℕ → Bool
   le = byKey key
 
-  test-is : (row i : ℕ) → i < length l → notAfter ks l (key row) row i ≡ le row (getD l i 0)
+  test-is : (row i : ℕ) → i < length l → keyNotAfter ks l (key row) row i ≡ le row (getD l i 0)
   unfolding byKey
   test-is row i h = rw (keys, mapped key l i h)
 
@@ -70,7 +70,7 @@ module _ (key : ℕ → ℕ) (ks l : List ℕ) (keys : ks ≡ map key l) (up : A
       (λ n. order key .trans t (pairwise-at (λ x y. le x y ≡ true) l 0 up i j (omega (arith, n)) b))
       (eq-or-ne i j)
 
-  module _ (row : ℕ) {n i : ℕ} (F : FirstIs (notAfter ks l (key row) row) n i) (fits : n ≤ length l) where
+  module _ (row : ℕ) {n i : ℕ} (F : FirstIs (keyNotAfter ks l (key row) row) n i) (fits : n ≤ length l) where
     -- so all before the place come before the row
     all-before : (j : ℕ) → j < i → le row (getD l j 0) ≡ false
     all-before j h = let f = F .fits in
@@ -106,14 +106,14 @@ module _ (key : ℕ → ℕ) (ks l : List ℕ) (keys : ks ≡ map key l) (up : A
     }
 
     -- one that is not, and comes before some
-    falls : (i : ℕ) → FirstIs (notAfter ks l (key row) row) n i → i < n → getD l i 0 ≢ row → Agrees le (order key) l (e ++ row ∷ []) i
+    falls : (i : ℕ) → FirstIs (keyNotAfter ks l (key row) row) n i → i < n → getD l i 0 ≢ row → Agrees le (order key) l (e ++ row ∷ []) i
     falls i F h d = let f = A .fits in record {
       fits = omega arith;
       later = λ y j k m g. ⊎-elim (λ o. A .later y j o m (omega arith)) (λ (q : y ≡ row). rw q (all-before row F f j g)) (mem-snoc y e row k);
       stop = λ g. record { one = row; in-all = snoc-mem row e row (inr refl); missing = not-listed row F f h d; first = sym (test-is row i g) ∙ F .at h };
     }
 
-    pub agrees-turn : {r : ℕ} → AheadIs (notAfter ks l (key row) row) l n row r → Agrees le (order key) l (e ++ row ∷ []) r
+    pub agrees-turn : {r : ℕ} → AheadIs (keyNotAfter ks l (key row) row) l n row r → Agrees le (order key) l (e ++ row ∷ []) r
     agrees-turn {r} H =
         let i : ℕ = H .place in
         by (ltb i n)

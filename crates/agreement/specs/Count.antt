@@ -1,3 +1,4 @@
+-- Between functions: what they promise one another. No contract of an entry and no theorem rests on this file.
 -- The agreement count (document 01, The report: "an agreement count: the number of places at which the list and the list over all eligible
 -- records hold the same id. It is its own call, refusing as a search does, 23 and 24 over all eligible rows"; readings R27). Rows stand for
 -- their ids.
@@ -18,11 +19,11 @@ use Rattle.search_spec.specs.Outcome.{samePlaces}
 use Rattle.rerank.specs.Rerank.{keyAt}
 use Rattle.agreement.specs.declared.Counted.{Counted}
 
--- ---- what the functions of the crate promise one another
+-- ---- the steps of the count
 
 -- the row, with its key, holds place i of a list with its keys, or comes before it
-abbrev pub notAfter : List ℕ → List ℕ → ℕ → ℕ → ℕ → Bool
-notAfter ks rs key row i = cond (eqb key (getD ks i 0)) (leb row (getD rs i 0)) (leb key (getD ks i 0))
+abbrev pub keyNotAfter : List ℕ → List ℕ → ℕ → ℕ → ℕ → Bool
+keyNotAfter ks rs key row i = cond (eqb key (getD ks i 0)) (leb row (getD rs i 0)) (leb key (getD ks i 0))
 
 -- i is n or passes the test, and the place before it fails; where the test keeps passing once it has passed, i is the first of n to pass
 pub record FirstIs (test : ℕ → Bool) (n i : ℕ) : Type 0 where

@@ -8,7 +8,7 @@ ghost use Rattle.rank.specs.Sort.{Ascending};
 ghost use Rattle.search_spec.specs.Lent.{given, everyone};
 ghost use Rattle.search_spec.specs.Lists.{isEligible};
 ghost use Rattle.rerank.specs.Rerank.{Located, Asked};
-ghost use Rattle.agreement.specs.Count.{notAfter, FirstIs, AheadIs, Listed, CountIs};
+ghost use Rattle.agreement.specs.Count.{keyNotAfter, FirstIs, AheadIs, Listed, CountIs};
 use config::Metric;
 use config::Refusal;
 use format::Layout;
@@ -23,7 +23,7 @@ pub struct Counted {
 // Whether the row, with its key, holds place i or comes before it: by the key, and of two equal keys by the row.
 fn not_after(ks: &[u64], rs: &[u64], key: u64, row: u64, i: usize) -> bool
     requires { ⌜ (i < length (now ks)) × (i < length (now rs)) ⌝ }
-    ensures { λ b. ⌜ b ≡ notAfter (now (ks .entry)) (now (rs .entry)) key row i ⌝ }
+    ensures { λ b. ⌜ b ≡ keyNotAfter (now (ks .entry)) (now (rs .entry)) key row i ⌝ }
 {
     let k = ks[i];
     if key == k {
@@ -36,7 +36,7 @@ fn not_after(ks: &[u64], rs: &[u64], key: u64, row: u64, i: usize) -> bool
 // answers for nearly every row.
 fn first_place(ks: &[u64], rs: &[u64], n: usize, key: u64, row: u64) -> usize
     requires { ⌜ (n ≤ length (now ks)) × (n ≤ length (now rs)) ⌝ }
-    ensures { λ i. ⌜ FirstIs (notAfter (now (ks .entry)) (now (rs .entry)) key row) n i ⌝ }
+    ensures { λ i. ⌜ FirstIs (keyNotAfter (now (ks .entry)) (now (rs .entry)) key row) n i ⌝ }
 {
     if n == 0 {
         return 0;
@@ -60,7 +60,7 @@ fn first_place(ks: &[u64], rs: &[u64], n: usize, key: u64, row: u64) -> usize
 // The places that still agree: of the first n, those that come before the row, where it is not listed.
 fn ahead(ks: &[u64], rs: &[u64], n: usize, key: u64, row: u64) -> usize
     requires { ⌜ (n ≤ length (now ks)) × (n ≤ length (now rs)) ⌝ }
-    ensures { λ r. ⌜ AheadIs (notAfter (now (ks .entry)) (now (rs .entry)) key row) (now (rs .entry)) n row r ⌝ }
+    ensures { λ r. ⌜ AheadIs (keyNotAfter (now (ks .entry)) (now (rs .entry)) key row) (now (rs .entry)) n row r ⌝ }
 {
     let i = first_place(ks, rs, n, key, row);
     if i < n {

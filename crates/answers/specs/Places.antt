@@ -1,3 +1,4 @@
+-- Between functions: what they promise one another. No contract of an entry and no theorem rests on this file.
 -- The places of listed rows (document 01, The report), from the order keys of their distances.
 use mathlib.Core.List.{List, [], _∷_}
 use Prim.Native.Nat.{ℕ}

@@ -1,3 +1,4 @@
+-- Between functions: what they promise one another. No contract of an entry and no theorem rests on this file.
 -- What a search or an agreement call returns (document 01, The report), from its numbers.
 use mathlib.Core.Bool.{Bool, true, cond}
 use mathlib.Core.List.{List}

@@ -5,7 +5,7 @@ ghost use Prim.Native.Nat.{_≤_, _<_};
 ghost use lib.ListN.{length};
 ghost use Rattle.le.specs.Le.{zeros};
 ghost use Rattle.rank.specs.Rows.{RowsBelow};
-ghost use Rattle.format.specs.Layout.{Placed};
+ghost use Rattle.format.specs.Layout.{LaidOut};
 ghost use Rattle.entries.specs.Plan.{rowsOk};
 ghost use Rattle.segment.specs.Record.{startsOf};
 ghost use Rattle.search_spec.specs.Lent.{answersOf};
@@ -21,7 +21,7 @@ use search_spec::Report;
 
 // A row of the list, with the key of its distance.
 fn place_of(m: &[u8], layout: Layout, starts: &[u64; 1025], key: u64, row: u64) -> Place
-    requires { ⌜ Placed (now m) layout × (rowsOk (now m) ≡ true) × (now starts ≡ startsOf (now m)) × (row < layout .rows) ⌝ }
+    requires { ⌜ LaidOut (now m) layout × (rowsOk (now m) ≡ true) × (now starts ≡ startsOf (now m)) × (row < layout .rows) ⌝ }
     ensures { λ r. ⌜ r ≡ placeBy (now (m .entry)) key row ⌝ }
 {
     let n = row as usize;
@@ -49,8 +49,11 @@ pub fn write(
     places: &mut [u64],
     lengths: &mut [u32],
 )
-    requires { ⌜ Placed (now m) layout × (rowsOk (now m) ≡ true) × (now starts ≡ startsOf (now m)) × (length (now keys) ≡ length (now listed)) × RowsBelow (layout .rows) (now listed) ⌝ }
-    requires { ⌜ (length (now listed) ≤ length (now ids)) × (length (now listed) ≤ length (now distances)) × (length (now listed) ≤ length (now rows)) × (length (now listed) ≤ length (now places)) × (length (now listed) ≤ length (now lengths)) ⌝ }
+    requires { ⌜ LaidOut (now m) layout × (rowsOk (now m) ≡ true) × (now starts ≡ startsOf (now m))
+        × (length (now keys) ≡ length (now listed)) × RowsBelow (layout .rows) (now listed) ⌝ }
+    requires { ⌜ (length (now listed) ≤ length (now ids)) × (length (now listed) ≤ length (now distances))
+        × (length (now listed) ≤ length (now rows)) × (length (now listed) ≤ length (now places))
+        × (length (now listed) ≤ length (now lengths)) ⌝ }
     ensures { λ _. ⌜ answersOf (now (ids .exit)) (now (distances .exit)) (now (rows .exit)) (now (places .exit)) (now (lengths .exit)) ≡ filled (placesBy (now (m .entry)) (now (keys .entry)) (now (listed .entry))) (answersOf (now (ids .entry)) (now (distances .entry)) (now (rows .entry)) (now (places .entry)) (now (lengths .entry))) ⌝ }
 {
     let mut i = 0;
@@ -67,7 +70,8 @@ pub fn write(
 
 // The working slices, zero over their whole length.
 pub fn clear(keys: &mut [u64], rows: &mut [u64], ids: &mut [u64])
-    ensures { λ _. ⌜ (now (keys .exit) ≡ zeros (now (keys .entry))) × (now (rows .exit) ≡ zeros (now (rows .entry))) × (now (ids .exit) ≡ zeros (now (ids .entry))) ⌝ }
+    ensures { λ _. ⌜ (now (keys .exit) ≡ zeros (now (keys .entry))) × (now (rows .exit) ≡ zeros (now (rows .entry)))
+        × (now (ids .exit) ≡ zeros (now (ids .entry))) ⌝ }
 {
     le::clear(keys);
     le::clear(rows);

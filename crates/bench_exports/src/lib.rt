@@ -115,7 +115,8 @@ pub extern "C" fn pv_encode_row(
     requires { ⌜ now t ≡ midpoints ⌝ }
     requires { ⌜ (16 ≤ length (now out)) × (length (now out) ≤ 4112) × (at + 4 * (length (now out) - 16) ≤ length (now s)) ⌝ }
     requires { ⌜ finites (floatsAt (length (now out) - 16) (now s) at) ≡ true ⌝ }
-    ensures { λ r. ⌜ (let e = encode baseLevels midpoints (floatsAt (length (now (out .entry)) - 16) (now (s .entry)) at) in (now (out .exit) ≡ rowBytes e) × (r ≡ e .scale) × (now (norm .exit) ≡ e .norm)) ⌝ }
+    ensures { λ r. ⌜ (let e = encode baseLevels midpoints (floatsAt (length (now (out .entry)) - 16) (now (s .entry)) at) in (now (out .exit) ≡ rowBytes e)
+        × (r ≡ e .scale) × (now (norm .exit) ≡ e .norm)) ⌝ }
 {
     let r = quantization::encode_row(t, quantization::BASE_LEVELS, s, at, out);
     let n = r.norm;
@@ -134,7 +135,8 @@ pub extern "C" fn pv_encode_resident(
     requires { ⌜ now t ≡ midpoints ⌝ }
     requires { ⌜ (length (now out) ≤ 4096) × (at + 4 * length (now out) ≤ length (now s)) ⌝ }
     requires { ⌜ finites (floatsAt (length (now out)) (now s) at) ≡ true ⌝ }
-    ensures { λ r. ⌜ (let e = encode baseLevels midpoints (floatsAt (length (now (out .entry))) (now (s .entry)) at) in (now (out .exit) ≡ e .codes) × (r ≡ e .scale) × (now (norm .exit) ≡ e .norm)) ⌝ }
+    ensures { λ r. ⌜ (let e = encode baseLevels midpoints (floatsAt (length (now (out .entry))) (now (s .entry)) at) in (now (out .exit) ≡ e .codes)
+        × (r ≡ e .scale) × (now (norm .exit) ≡ e .norm)) ⌝ }
 {
     let r = quantization::encode_resident(t, quantization::BASE_LEVELS, s, at, out);
     let n = r.norm;
@@ -147,7 +149,8 @@ pub extern "C" fn pv_encode_query(t: &[f64; 127], v: &[f32], out: &mut [i16], no
     requires { ⌜ now t ≡ midpoints ⌝ }
     requires { ⌜ (length (now v) ≤ 4096) × (length (now v) ≤ length (now out)) ⌝ }
     requires { ⌜ finites (now v) ≡ true ⌝ }
-    ensures { λ r. ⌜ (let e = encode baseLevels midpoints (now (v .entry)) in (now (out .exit) ≡ e .codes ++ drop (length (now (v .entry))) (now (out .entry))) × (r ≡ e .scale) × (now (norm .exit) ≡ e .norm)) ⌝ }
+    ensures { λ r. ⌜ (let e = encode baseLevels midpoints (now (v .entry)) in (now (out .exit) ≡ e .codes ++ drop (length (now (v .entry))) (now (out .entry)))
+        × (r ≡ e .scale) × (now (norm .exit) ≡ e .norm)) ⌝ }
 {
     let r = quantization::encode_query(t, quantization::BASE_LEVELS, v, out);
     let n = r.norm;
@@ -199,7 +202,8 @@ pub extern "C" fn pv_squared_l2_four(
     d: usize,
     out: &mut [f64; 4],
 )
-    requires { ⌜ (inverse ≡ inverseNorm (now q)) × Readable (length (now q)) (now s) a × Readable (length (now q)) (now s) b × Readable (length (now q)) (now s) c × Readable (length (now q)) (now s) d ⌝ }
+    requires { ⌜ (inverse ≡ inverseNorm (now q)) × Readable (length (now q)) (now s) a × Readable (length (now q)) (now s) b
+        × Readable (length (now q)) (now s) c × Readable (length (now q)) (now s) d ⌝ }
     ensures { λ r. ⌜ (let at : ℕ → List Float = λ p. floatsAt (length (now (q .entry))) (now (s .entry)) p in now (out .exit) ≡ originalFour M.SquaredL2 (now (q .entry)) (at a) (at b) (at c) (at d)) ⌝ }
 {
     *out = math::original_four(Metric::SquaredL2, q, inverse, s, a, b, c, d);
@@ -216,7 +220,8 @@ pub extern "C" fn pv_cosine_four(
     d: usize,
     out: &mut [f64; 4],
 )
-    requires { ⌜ (inverse ≡ inverseNorm (now q)) × Readable (length (now q)) (now s) a × Readable (length (now q)) (now s) b × Readable (length (now q)) (now s) c × Readable (length (now q)) (now s) d ⌝ }
+    requires { ⌜ (inverse ≡ inverseNorm (now q)) × Readable (length (now q)) (now s) a × Readable (length (now q)) (now s) b
+        × Readable (length (now q)) (now s) c × Readable (length (now q)) (now s) d ⌝ }
     ensures { λ r. ⌜ (let at : ℕ → List Float = λ p. floatsAt (length (now (q .entry))) (now (s .entry)) p in now (out .exit) ≡ originalFour M.Cosine (now (q .entry)) (at a) (at b) (at c) (at d)) ⌝ }
 {
     *out = math::original_four(Metric::Cosine, q, inverse, s, a, b, c, d);
@@ -233,7 +238,8 @@ pub extern "C" fn pv_inner_product_four(
     d: usize,
     out: &mut [f64; 4],
 )
-    requires { ⌜ (inverse ≡ inverseNorm (now q)) × Readable (length (now q)) (now s) a × Readable (length (now q)) (now s) b × Readable (length (now q)) (now s) c × Readable (length (now q)) (now s) d ⌝ }
+    requires { ⌜ (inverse ≡ inverseNorm (now q)) × Readable (length (now q)) (now s) a × Readable (length (now q)) (now s) b
+        × Readable (length (now q)) (now s) c × Readable (length (now q)) (now s) d ⌝ }
     ensures { λ r. ⌜ (let at : ℕ → List Float = λ p. floatsAt (length (now (q .entry))) (now (s .entry)) p in now (out .exit) ≡ originalFour M.InnerProduct (now (q .entry)) (at a) (at b) (at c) (at d)) ⌝ }
 {
     *out = math::original_four(Metric::InnerProduct, q, inverse, s, a, b, c, d);

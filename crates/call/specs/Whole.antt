@@ -1,3 +1,4 @@
+-- Between functions: what they promise one another. No contract of an entry and no theorem rests on this file.
 -- The outcome of a call, a search or an agreement count (document 01, The report).
 use mathlib.Core.Bool.{Bool}
 use Rattle.format.specs.declared.Head.{Head}

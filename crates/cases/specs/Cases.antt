@@ -6,21 +6,21 @@ use Prim.Native.Nat.{ℕ, _+_, _*_}
 use lib.IntN.{ℤ, pos, negsuc}
 use lib.ListN.{replicate}
 use lib.Ieee.{Float, fin, binary64, ofBits}
-use Rattle.float.specs.Values.{zero, one, two}
+use Rattle.float.specs.Values.{plusZero, one, two}
 use Rattle.config.specs.Refusal.{refused}
 use Rattle.config.specs.declared.Metric.the-variants.{SquaredL2, Cosine, InnerProduct}
 use Rattle.quantization.specs.View.{View, validRow}
 use Rattle.quantization.specs.Encoder.{baseLevels, encode, codeOf, midpoints}
-use Rattle.geometry.specs.Cache.{identityLength, cacheSize}
-use Rattle.geometry.specs.Sizing.{sizingNumber}
+use Rattle.cache_format.specs.Cache.{identityLength, cacheSize}
+use Rattle.cache_format.specs.Sizing.{sizingNumber}
 use Rattle.math.specs.Distance.{original}
 use Rattle.row.specs.Distance.{approximate}
 use Rattle.row.specs.Answer.{rowAnswer}
 use Rattle.row.specs.declared.RowAnswer.the-variants.{Refused}
 
 -- the whole number n, and n halves
-abbrev whole : ℕ → Float
-whole n = fin false n (pos 0)
+abbrev ofNatural : ℕ → Float
+ofNatural n = fin false n (pos 0)
 
 abbrev half : Bool → Float
 half s = fin s 1 (negsuc 0)
@@ -41,23 +41,23 @@ large = ofBits binary64 0x6974E718D7D7625A
 
 pub record Cases : Type 0 where
   -- "(127, 0.5, -0.5): scale 1, codes 127, 1, -1, norm 16131"
-  pub a : encoded (whole 127 ∷ half false ∷ half true ∷ []) ≡ row one 16131 (pos 127 ∷ pos 1 ∷ negsuc 0 ∷ [])
+  pub a : encoded (ofNatural 127 ∷ half false ∷ half true ∷ []) ≡ row one 16131 (pos 127 ∷ pos 1 ∷ negsuc 0 ∷ [])
   -- "(254, 1, -1, 3): scale 2, codes 127, 1, -1, 2, norm 16135"
-  pub b : encoded (fin false 127 (pos 1) ∷ one ∷ fin true 1 (pos 0) ∷ whole 3 ∷ []) ≡ row two 16135 (pos 127 ∷ pos 1 ∷ negsuc 0 ∷ pos 2 ∷ [])
+  pub b : encoded (fin false 127 (pos 1) ∷ one ∷ fin true 1 (pos 0) ∷ ofNatural 3 ∷ []) ≡ row two 16135 (pos 127 ∷ pos 1 ∷ negsuc 0 ∷ pos 2 ∷ [])
   -- "Zero, two coordinates: scale 1, norm 0"
-  pub c : encoded (zero ∷ zero ∷ []) ≡ row one 0 (pos 0 ∷ pos 0 ∷ [])
+  pub c : encoded (plusZero ∷ plusZero ∷ []) ≡ row one 0 (pos 0 ∷ pos 0 ∷ [])
   -- "L2, row (127, 0), query (0, 127): both distances 32258"
-  pub d-approximate : approximate SquaredL2 (encoded (whole 127 ∷ zero ∷ [])) (encoded (zero ∷ whole 127 ∷ [])) ≡ fin false 16129 (pos 1)
-  pub d-original : original SquaredL2 (zero ∷ whole 127 ∷ []) (whole 127 ∷ zero ∷ []) ≡ fin false 16129 (pos 1)
+  pub d-approximate : approximate SquaredL2 (encoded (ofNatural 127 ∷ plusZero ∷ [])) (encoded (plusZero ∷ ofNatural 127 ∷ [])) ≡ fin false 16129 (pos 1)
+  pub d-original : original SquaredL2 (plusZero ∷ ofNatural 127 ∷ []) (ofNatural 127 ∷ plusZero ∷ []) ≡ fin false 16129 (pos 1)
   -- "Cosine, (127, 0) with itself: approximate +0"
-  pub e : approximate Cosine (encoded (whole 127 ∷ zero ∷ [])) (encoded (whole 127 ∷ zero ∷ [])) ≡ zero
+  pub e : approximate Cosine (encoded (ofNatural 127 ∷ plusZero ∷ [])) (encoded (ofNatural 127 ∷ plusZero ∷ [])) ≡ plusZero
   -- "Inner product, query (1): original distance of record (+0) is -0.0, of record (-0) +0.0"
-  pub f-plus : original InnerProduct (one ∷ []) (zero ∷ []) ≡ minusZero
-  pub f-minus : original InnerProduct (one ∷ []) (minusZero ∷ []) ≡ zero
+  pub f-plus : original InnerProduct (one ∷ []) (plusZero ∷ []) ≡ minusZero
+  pub f-minus : original InnerProduct (one ∷ []) (minusZero ∷ []) ≡ plusZero
   -- "L2, scale 1e200, norm 0: approximate +0. With norm 1 and a zero query: 22": whatever the row's codes are, and in the first case the query
-  pub g-plus : (cs : List ℤ) (q : View) → approximate SquaredL2 (row large 0 cs) q ≡ zero
+  pub g-plus : (cs : List ℤ) (q : View) → approximate SquaredL2 (row large 0 cs) q ≡ plusZero
   pub g-refused : (place n : ℕ) (cs : List ℤ) → validRow baseLevels SquaredL2 (row large 1 cs) ≡ true
-      → rowAnswer baseLevels SquaredL2 true place (row large 1 cs) (encoded (replicate n zero)) ≡ Refused (refused 22 place)
+      → rowAnswer baseLevels SquaredL2 true place (row large 1 cs) (encoded (replicate n plusZero)) ≡ Refused (refused 22 place)
   -- "Platform `linux`, root `/s`, one-byte model, one segment, two rows of 3: identity 121, cache 179. Limit 187 passes, 186 gives 9;
   -- block 19 passes, 18 gives 7"; the manifest is 65 bytes, the model, 12 a segment and 20 a row long
   pub h-identity : identityLength 5 2 (65 + 1 + 12 * 1 + 20 * 2) ≡ 121

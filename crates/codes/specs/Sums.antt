@@ -1,4 +1,5 @@
--- What the functions of the crate promise one another: the sums of a part of a row, with one code more, and of two parts
+-- Between functions: what they promise one another. No contract of an entry and no theorem rests on this file.
+-- The sums of a part of a row, with one code more, and of two parts
 -- that follow each other.
 use mathlib.Core.List.{List}
 use mathlib.Core.Path.{_≡_}

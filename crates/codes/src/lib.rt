@@ -131,7 +131,8 @@ fn sums_part(
     e: usize,
     n: usize,
 ) -> Sums
-    requires { ⌜ (at + length (now q) ≤ length (now c)) × (length (now q) ≤ 65536) × (levels ≤ 127) × (i ≤ e) × (e ≤ i + n) × (n ≤ e) × (n ≤ 16) × (e ≤ length (now q)) ⌝ }
+    requires { ⌜ (at + length (now q) ≤ length (now c)) × (length (now q) ≤ 65536) × (levels ≤ 127) × (i ≤ e) × (e ≤ i + n) × (n ≤ e)
+        × (n ≤ 16) × (e ≤ length (now q)) ⌝ }
     requires { ⌜ Small (now q) × Summed levels i (codes (now c)) at (now q) 0 a ⌝ }
     ensures { λ r. ⌜ Summed levels e (codes (now (c .entry))) at (now (q .entry)) 0 r ⌝ }
 {
@@ -386,7 +387,8 @@ fn sums_part_resident(
     e: usize,
     n: usize,
 ) -> Sums
-    requires { ⌜ (at + length (now q) ≤ length (now c)) × (length (now q) ≤ 65536) × (levels ≤ 127) × (i ≤ e) × (e ≤ i + n) × (n ≤ e) × (n ≤ 16) × (e ≤ length (now q)) ⌝ }
+    requires { ⌜ (at + length (now q) ≤ length (now c)) × (length (now q) ≤ 65536) × (levels ≤ 127) × (i ≤ e) × (e ≤ i + n) × (n ≤ e)
+        × (n ≤ 16) × (e ≤ length (now q)) ⌝ }
     requires { ⌜ Small (now q) × Summed levels i (now c) at (now q) 0 a ⌝ }
     ensures { λ r. ⌜ Summed levels e (now (c .entry)) at (now (q .entry)) 0 r ⌝ }
 {

@@ -14,7 +14,7 @@ use lib.Ieee.Scale.{finite}
 use Rattle.le.specs.Le.{leAt}
 use Rattle.config.specs.Metric.{isCosine}
 use Rattle.config.specs.declared.Metric.{Metric}
-use Rattle.config.specs.Vector.{all, finites, zeros, validVector, patternsAt, floatsAt}
+use Rattle.config.specs.Vector.{all, finites, allZero, validVector, patternsAt, floatsAt}
 use Rattle.config.proofs.Vectors.{length-floats}
 
 -- ---- every element
@@ -37,7 +37,7 @@ module _ {A : Type 0} (test : A → Bool) where
 pub valid-parts : (metric : Metric) (n : ℕ) (v : List Float) → validVector metric n v ≡ true → (length v ≡ n) × (finites v ≡ true)
 unfolding validVector
 valid-parts metric n v h =
-    let e = and-eq-true-iff (eqb (length v) n && finites v) (not (isCosine metric && zeros v)) .0 h .0 in
+    let e = and-eq-true-iff (eqb (length v) n && finites v) (not (isCosine metric && allZero v)) .0 h .0 in
     let f = and-eq-true-iff (eqb (length v) n) (finites v) .0 e in
     (eqb-true (length v) n (f .0), f .1)
 

@@ -19,10 +19,10 @@ use lib.Ieee.Exact.{HasValue}
 use Rattle.le.specs.Le.{leAt}
 use Rattle.le.proofs.Chain.{by}
 use Rattle.float.proofs.Patterns.{mag, bits-finite, small-bits, pattern-value, mag-pos}
-use Rattle.float.specs.Values.{zero as nought}
+use Rattle.float.specs.Values.{plusZero}
 use Rattle.config.specs.Metric.{isCosine}
 use Rattle.config.specs.declared.Metric.{Metric}
-use Rattle.config.specs.Vector.{all, finites, zeros, validVector, patternsAt, floatsAt, largestPatternFrom, largestBits}
+use Rattle.config.specs.Vector.{all, finites, allZero, validVector, patternsAt, floatsAt, largestPatternFrom, largestBits}
 
 -- ---- a test of every element
 
@@ -124,20 +124,20 @@ zero-alike a b c d p q h =
     clash : (x y z w : ℕ) → 0 < y → z * w ≡ x * y → 0 < x → z ≡ 0 → ⊥
     clash x y z w k e l o = omega (arith, mul-pos l k, ap (λ n. n * w) o ∙ zero-mul w)
 
-zero-value : (x : Float) (s : Bool) (a c : ℕ) → 0 < c → HasValue x s a c → eq x nought ≡ eqb a 0
+zero-value : (x : Float) (s : Bool) (a c : ℕ) → 0 < c → HasValue x s a c → eq x plusZero ≡ eqb a 0
 unfolding eq
 zero-value nan s a c p h = absurd h
 zero-value (inf t) s a c p h = absurd h
 zero-value (fin t m e) s a c p h = rw (mul-one (m * up e), zero-mul (down e)) (level-zero t (m * up e) ∙ zero-alike (m * up e) a c (down e) p (down-pos e) (h .1))
 
-zero-pattern : (b : ℕ) → eq (ofBits binary32 b) nought ≡ ltb (b % 2147483648) 1
+zero-pattern : (b : ℕ) → eq (ofBits binary32 b) plusZero ≡ ltb (b % 2147483648) 1
 zero-pattern b =
     by (ltb (b % 2147483648) 2139095040)
     (λ e. let h = ltb-true (b % 2147483648) 2139095040 e in
     zero-value (ofBits binary32 b) (leb 2147483648 b) (mag binary32 (b % 2147483648)) (2 ^ 149) (pow-pos 149) (pattern-value binary32 b h) ∙ mag-zero (b % 2147483648))
     (λ e. not-zero (ofBits binary32 b) (finite-pattern b ∙ e) ∙ sym (le-ltb (b % 2147483648) 1 (omega (arith, ltb-false (b % 2147483648) 2139095040 e))))
   where
-    not-zero : (x : Float) → finite x ≡ false → eq x nought ≡ false
+    not-zero : (x : Float) → finite x ≡ false → eq x plusZero ≡ false
     not-zero nan h = unfold eq in refl
     not-zero (inf s) h = unfold eq in refl
     not-zero (fin s m e) h = absurd (true≢false h)
@@ -148,9 +148,9 @@ zero-pattern b =
         (λ e. let z : n ≡ 0 = omega (arith, ltb-true n 1 e) in rw (e, z))
         (λ e. rw e (ne-eqb (mag binary32 n) 0 (λ q. omega (arith, mag-pos binary32 n (omega (arith, ltb-false n 1 e))))))
 
-pub zeros-largest : (bs : List ℕ) → zeros (map (ofBits binary32) bs) ≡ ltb (largestBits bs) 1
+pub zeros-largest : (bs : List ℕ) → allZero (map (ofBits binary32) bs) ≡ ltb (largestBits bs) 1
 zeros-largest bs =
-    all-map (λ x. eq x nought) (ofBits binary32) bs ∙ all-ext (λ b. eq (ofBits binary32 b) nought) (λ b. ltb (b % 2147483648) 1) zero-pattern bs
+    all-map (λ x. eq x plusZero) (ofBits binary32) bs ∙ all-ext (λ b. eq (ofBits binary32 b) plusZero) (λ b. ltb (b % 2147483648) 1) zero-pattern bs
     ∙ sym (largest-ltb 1 0 bs)
 
 -- ---- the patterns in a record's bytes

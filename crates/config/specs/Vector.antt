@@ -8,7 +8,7 @@ use lib.ListN.{length}
 use lib.Ieee.{Float, binary32, ofBits, eq}
 use lib.Ieee.Scale.{finite}
 use Rattle.le.specs.Le.{leAt}
-use Rattle.float.specs.Values.{zero as nought}
+use Rattle.float.specs.Values.{plusZero}
 use Rattle.config.specs.Metric.{isCosine}
 use Rattle.config.specs.declared.Metric.{Metric}
 
@@ -21,11 +21,11 @@ abbrev pub finites : List Float → Bool
 finites v = all finite v
 
 -- all zero, -0.0 being zero
-abbrev pub zeros : List Float → Bool
-zeros v = all (λ x. eq x nought) v
+abbrev pub allZero : List Float → Bool
+allZero v = all (λ x. eq x plusZero) v
 
 unfoldable pub validVector : Metric → ℕ → List Float → Bool
-validVector metric dimensions v = eqb (length v) dimensions && finites v && not (isCosine metric && zeros v)
+validVector metric dimensions v = eqb (length v) dimensions && finites v && not (isCosine metric && allZero v)
 
 -- the patterns of n f32 from a place on, and their values
 unfoldable pub patternsAt : ℕ → List ℕ → ℕ → List ℕ

@@ -17,13 +17,12 @@ use lib.Ieee.Scale.{finite}
 use lib.Ieee.Positive.{num, den, den-pos, through, value→cross}
 use borrow.Author.Tests.{ltb-true}
 use Rattle.float.specs.Values.{one}
-use Rattle.float.specs.Order.{negative}
-use Rattle.row.specs.Distance.{_⊖_, _⊗_, _⊘_, whole, cosineBy}
+use Rattle.float.specs.Order.{negative, keyed}
+use Rattle.row.specs.Distance.{_⊖_, _⊗_, _⊘_, ofInteger, cosineBy}
 use Rattle.float.proofs.BitLaws.{value-finite, value-sign}
 use Rattle.float.proofs.Within.{Within, holds, half, two as power}
 use Rattle.float.proofs.Bounds.{within-refl, within-trans, within-pos, under, over-by, div-is, mul-sign, div-sign, mul-over, mul-under, div-under, sub-under, int-within, int-over, round-sign}
 use Rattle.float.proofs.Singles.{positive-of}
-use Rattle.float.proofs.Keys.{keyed}
 use Rattle.root.specs.SquareRoot.{Root, floorRoot, sqrtOf}
 use Rattle.root.proofs.SquareRoot.{Floor, floor, sqrt-root, root-fine, root-under, root-holds}
 use Rattle.cosine.specs.Far.{positivePart, isFar, Far}
@@ -114,13 +113,13 @@ over-held m k h t =
     and-i (ltb m (2 ^ 53) && leb (2 ^ suc k) (2 ^ 1074)) (ltb (m * 1) (2 ^ 1024 * 2 ^ suc k)) (and-i (ltb m (2 ^ 53)) (leb (2 ^ suc k) (2 ^ 1074)) (lt→ltb m (2 ^ 53) h) t)
     (lt→ltb (m * 1) (2 ^ 1024 * 2 ^ suc k) (rw (mul-one m) (lt-of-lt-of-le h (le-trans (lit≤ tt) (rw (mul-one (2 ^ 1024)) at (mul-le-mul-left (2 ^ 1024) (pow-pos (suc k))))))))
 
-whole-value : (n : ℕ) → n < 2 ^ 53 → HasValue (whole (pos n)) false n 1
+whole-value : (n : ℕ) → n < 2 ^ 53 → HasValue (ofInteger (pos n)) false n 1
 unfolding ofInt
 whole-value n h = let t : 53 + 1074 ≤ 2098 = lit≤ tt in round-exact binary64 false n 1 n 1074 (lit< tt) h (le-trans (shl-lt 53 1074 h) (pow-mono t)) (sym (mul-one (n * 2 ^ 1074)))
 
 -- g / 2 ^ 16, as the code has it
 abbrev pub step : ℕ → Float
-step g = whole (pos g) ⊗ half 15
+step g = ofInteger (pos g) ⊗ half 15
 
 module _ (g : ℕ) (few : g < 65536) where
   step-high : Within (step g) one
@@ -132,11 +131,11 @@ module _ (g : ℕ) (few : g < 65536) where
   step-plain : negative (step g) ≡ false
   step-plain =
       let v = whole-value g (omega arith) in
-      mul-sign binary64 (whole (pos g)) (half 15) (value-finite (whole (pos g)) false g 1 v) tt ∙ rw (value-sign (whole (pos g)) false g 1 v)
+      mul-sign binary64 (ofInteger (pos g)) (half 15) (value-finite (ofInteger (pos g)) false g 1 v) tt ∙ rw (value-sign (ofInteger (pos g)) false g 1 v)
 
   step-over : Within (over 15 g) (step g)
   step-over =
-      let w = whole (pos g) in
+      let w = ofInteger (pos g) in
       let v = whole-value g (omega arith) in
       mul-over binary64 (over 15 g) (within-refl w (value-finite w false g 1 v)) (within-refl (half 15) tt) (over-held g 15 (omega arith) tt)
       (rw (mul-one g, ← mul-assoc g (den w) (2 ^ 16), ← value→cross w g 1 v) (le-refl (num w * 1 * 2 ^ 16))) (step-high .fine)
@@ -144,7 +143,7 @@ module _ (g : ℕ) (few : g < 65536) where
 -- the root of a norm
 module _ (n : ℕ) (low : 1 ≤ n) (high : n < 2 ^ 32) where
   abbrev x : Float
-  x = whole (pos n)
+  x = ofInteger (pos n)
 
   x-high : Within x (power 32)
   x-high = int-within binary64 (pos n) (power 32) tt (omega arith)
@@ -195,17 +194,17 @@ module _ (n q : ℕ) (ln : 1 ≤ n) (hn : n < 2 ^ 32) (lq : 1 ≤ q) (hq : q < 2
       omega (arith, mul-le-mul a b)
 
   abbrev root : Float
-  root = sqrtOf (whole (pos q))
+  root = sqrtOf (ofInteger (pos q))
 
   abbrev p : Float
-  p = sqrtOf (whole (pos n)) ⊗ root
+  p = sqrtOf (ofInteger (pos n)) ⊗ root
 
   p-high : Within p (power 34)
   p-high = mul-under binary64 (power 34) (root-high n ln hn) (root-high q lq hq') tt
 
   p-plain : negative p ≡ false
   p-plain =
-      mul-sign binary64 (sqrtOf (whole (pos n))) root (root-high n ln hn .fine) (root-high q lq hq' .fine) ∙ rw (root-plain n ln hn, root-plain q lq hq')
+      mul-sign binary64 (sqrtOf (ofInteger (pos n))) root (root-high n ln hn .fine) (root-high q lq hq' .fine) ∙ rw (root-plain n ln hn, root-plain q lq hq')
 
   h-p : Within (over 19 h) p
   h-p =
@@ -230,9 +229,9 @@ module _ (n q : ℕ) (ln : 1 ≤ n) (hn : n < 2 ^ 32) (lq : 1 ≤ q) (hq : q < 2
         gather : (n q : ℕ) → n * q * 2 ^ 120 ≡ n * 2 ^ 40 * (q * 2 ^ 40) * (1048576 * 1048576)
         gather n q = sym (ap (λ (z : ℕ). z * (1048576 * 1048576)) (mul-mul-mul-comm n (2 ^ 40) q (2 ^ 40)) ∙ mul-assoc (n * q) (2 ^ 40 * 2 ^ 40) (1048576 * 1048576))
 
-    quotient : (d : ℤ) → natAbs d ≤ 2 ^ 31 → 64 * (positivePart d * positivePart d) ≤ t * n → negative (whole d ⊘ p) ≡ false → Within (whole d ⊘ p) (over 15 g)
+    quotient : (d : ℤ) → natAbs d ≤ 2 ^ 31 → 64 * (positivePart d * positivePart d) ≤ t * n → negative (ofInteger d ⊘ p) ≡ false → Within (ofInteger d ⊘ p) (over 15 g)
     quotient (pos e) k w s =
-        let a = whole (pos e) in
+        let a = ofInteger (pos e) in
         let v = whole-value e (omega arith) in
         rw (div-is binary64 a p (value-finite a false e 1 v) (p-high .fine) p-some)
         (under binary64 (unlike (negative a) (negative p)) (num a * den p) (num p * den a) (over 15 g) (over-held g 15 (omega arith) tt) (mul-pos p-some (den-pos a))
@@ -247,7 +246,7 @@ module _ (n q : ℕ) (ln : 1 ≤ n) (hn : n < 2 ^ 32) (lq : 1 ≤ q) (hq : q < 2
             mul-assoc (e * D) (2 ^ 20) (2 ^ 16) ∙ mul-assoc e D (2 ^ 36) ∙ ap (λ (z : ℕ). e * z) (mul-comm D (2 ^ 36)) ∙ sym (mul-assoc e (2 ^ 36) D) in
             rw (mul-one g, mul-one h, z) (le-trans (le-of-eq first) (le-trans (mul-le-mul-right D k) (le-of-eq (mul-assoc g h D))))
     quotient (negsuc e) k w s =
-        let a = whole (negsuc e) in
+        let a = ofInteger (negsuc e) in
         let f = int-within binary64 (negsuc e) (power 31) tt (omega arith) .fine in
         let b : negative a ≡ true = unfold ofInt in round-sign binary64 true (suc e) 1 in
         absurd (true≢false (sym (div-sign binary64 a p f (p-high .fine) p-some ∙ rw (b, p-plain)) ∙ s))
@@ -258,7 +257,7 @@ module _ (n q : ℕ) (ln : 1 ≤ n) (hn : n < 2 ^ 32) (lq : 1 ≤ q) (hq : q < 2
     far-key d k w =
         let x = div-under binary64 (power 31) (int-within binary64 d (power 31) tt (omega arith)) one-p tt in
         let y = step-high g hg in
-        minus-keys (whole d ⊘ p) (step g) (x .fine) (y .fine) (step-plain g hg) (omega (arith, y .order)) (λ s. within-trans (quotient d k w s) (step-over g hg))
+        minus-keys (ofInteger d ⊘ p) (step g) (x .fine) (y .fine) (step-plain g hg) (omega (arith, y .order)) (λ s. within-trans (quotient d k w s) (step-over g hg))
         (sub-under binary64 (power 32) (within-refl one tt) x tt .fine)
 
 -- ---- for code
@@ -267,7 +266,7 @@ unfolding isFar
 never root worst = record { turns = λ n d ln hn hd w. absurd (omega (arith, zero-mul n, ltb-true (positivePart d * positivePart d) (0 * n / 64) w)) }
 
 pub far : (q g worst : ℕ) → q < 67108864 → g < 65536 → let u = g * g * q / 67108864 in
-    0 < u → worst < keyed (one ⊖ step g) → Far (sqrtOf (whole (pos q))) worst (u - u / 131072 - 1)
+    0 < u → worst < keyed (one ⊖ step g) → Far (sqrtOf (ofInteger (pos q))) worst (u - u / 131072 - 1)
 unfolding isFar
 far q g worst hq hg some h = record {
   turns = λ n d ln hn hd w.

@@ -12,12 +12,12 @@ use lib.Ieee.Scale.{finite}
 use lib.Ieee.Positive.{num, den, den-pos}
 use borrow.Author.Tests.{le-ltb}
 use Rattle.le.proofs.Chain.{by}
-use Rattle.float.specs.Values.{zero, one, two}
+use Rattle.float.specs.Values.{plusZero, one, two}
 use Rattle.float.specs.Hold.{clamp}
-use Rattle.float.specs.Order.{negative}
+use Rattle.float.specs.Order.{negative, keyed}
 use Rattle.float.proofs.Within.{Within}
 use Rattle.float.proofs.Bounds.{within-trans, within-of-lt, rounded, round-sign, under, add-is}
-use Rattle.float.proofs.Keys.{keyed, key-within}
+use Rattle.float.proofs.Keys.{key-within}
 
 -- ---- 1 - x as a rounding
 minus-is : (x : Float) → T (finite x) → sub binary64 one x ≡ sum binary64 false (den x) (not (negative x)) (num x) (den x)
@@ -71,22 +71,22 @@ module _ (x y : Float) (fx : T (finite x)) (fy : T (finite y)) (plain : negative
       above (den x - num x) (minus-plain x fx s k) (falls (num x) (den x) (num y) (den y) w))
 
   -- 1 - y is at most 1, so it stays below when 1 - x is held
-  held : (negative (clamp zero two z) ≡ false) × Within u (clamp zero two z)
+  held : (negative (clamp plusZero two z) ≡ false) × Within u (clamp plusZero two z)
   unfolding clamp
   held =
       let p = difference .0 in
       let w = difference .1 in
       let a : Within u one = rw u-is (under binary64 false (den y - num y) (den y) one tt (den-pos y) (omega arith)) in
-      by (lt z zero)
-      (λ e. rw e (refl, within-trans w (within-of-lt z zero fz tt p refl e)))
+      by (lt z plusZero)
+      (λ e. rw e (refl, within-trans w (within-of-lt z plusZero fz tt p refl e)))
       (λ e. by (lt two z) (λ g. rw (e, g) (refl, within-trans a (record { fine = tt; bound = tt; order = lit≤ tt }))) (λ g. rw (e, g) (p, w)))
 
-  held-fits : T (fits binary64 (clamp zero two z))
+  held-fits : T (fits binary64 (clamp plusZero two z))
   unfolding clamp
-  held-fits = cond-fits binary64 (lt z zero) zero (cond (lt two z) two z) (unfold fits in tt) (cond-fits binary64 (lt two z) two z (unfold fits in tt) (sub-fits binary64 one x))
+  held-fits = cond-fits binary64 (lt z plusZero) plusZero (cond (lt two z) two z) (unfold fits in tt) (cond-fits binary64 (lt two z) two z (unfold fits in tt) (sub-fits binary64 one x))
 
-  pub minus-keys : T (finite (clamp zero two z)) × (keyed u ≤ keyed (clamp zero two z))
+  pub minus-keys : T (finite (clamp plusZero two z)) × (keyed u ≤ keyed (clamp plusZero two z))
   minus-keys = (
     held .1 .bound,
-    key-within u (clamp zero two z) (sub-fits binary64 one y) held-fits (rw u-is (round-sign binary64 false (den y - num y) (den y))) (held .0) (held .1),
+    key-within u (clamp plusZero two z) (sub-fits binary64 one y) held-fits (rw u-is (round-sign binary64 false (den y - num y) (den y))) (held .0) (held .1),
   )

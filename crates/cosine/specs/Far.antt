@@ -1,3 +1,4 @@
+-- Between functions: what they promise one another. No contract of an entry and no theorem rests on this file.
 -- A row that is known to be too far by its norm and its dot product alone (document 01, The arithmetic, Approximate: "Cosine is
 -- 1 - dot / (root(norm) × root(qnorm)), held in 0..2"; "Order: IEEE 754 totalOrder on distance, then id").
 use mathlib.Core.Path.{_≡_}

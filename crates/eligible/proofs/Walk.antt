@@ -24,7 +24,7 @@ use Rattle.entries.specs.Plan.{rowsOk}
 use Rattle.entries.proofs.Entries.{ids-rise}
 use Rattle.search_spec.specs.Lent.{Wanted, every, only, given, handed, wants, everyone}
 use Rattle.search_spec.specs.Lists.{isEligible, eligible}
-use Rattle.eligible.specs.Walk.{Behind, Stepped, Walked, Turned, ordered}
+use Rattle.eligible.specs.Walk.{Behind, Stepped, CursorAt, Turned, sortedIds}
 use Rattle.eligible.specs.declared.Found.{Found}
 
 -- ---- the order of the ids does not matter
@@ -34,29 +34,29 @@ unfolding isEligible wants
 sorted-same ids allowed m = fun-ext (λ r. ap (λ b. allowed (idAt m r) && b) (among-sort leb (idAt m r) ids))
 
 pub ordered-same : (all : Bool) (ids : List ℕ) (allowed : ℕ → Bool) (m : List ℕ)
-    → isEligible (given all (ordered (given all ids))) allowed m ≡ isEligible (given all ids) allowed m
+    → isEligible (given all (sortedIds (given all ids))) allowed m ≡ isEligible (given all ids) allowed m
 ordered-same true ids allowed m = refl
 ordered-same false ids allowed m = sorted-same ids allowed m
 
 -- and so the eligible rows are the same
 pub ordered-rows : (all : Bool) (ids : List ℕ) (allowed : ℕ → Bool) (m : List ℕ)
-    → eligible (given all (ordered (given all ids))) allowed m ≡ eligible (given all ids) allowed m
+    → eligible (given all (sortedIds (given all ids))) allowed m ≡ eligible (given all ids) allowed m
 unfolding eligible
 ordered-rows all ids allowed m = rw (ordered-same all ids allowed m)
 
-pub ordered-rises : (w : Wanted) → Ascending leb (ordered w)
+pub ordered-rises : (w : Wanted) → Ascending leb (sortedIds w)
 ordered-rises every = tt
 ordered-rises (only ids) = ascending-sort leb leb-order ids
 
 -- they are what stands at the front of the id slice
-length-ordered : (w : Wanted) → length (ordered w) ≡ handed w
+length-ordered : (w : Wanted) → length (sortedIds w) ≡ handed w
 length-ordered every = refl
 length-ordered (only ids) = length-sort leb ids
 
-pub front : (w : Wanted) (t : List ℕ) → take (handed w) (ordered w ++ t) ≡ ordered w
-front w t = take-at (ordered w) t (handed w) (length-ordered w)
+pub front : (w : Wanted) (t : List ℕ) → take (handed w) (sortedIds w ++ t) ≡ sortedIds w
+front w t = take-at (sortedIds w) t (handed w) (length-ordered w)
 
-pub length-front : (w : Wanted) (t : List ℕ) → handed w ≤ length t → length (ordered w ++ drop (handed w) t) ≡ length t
+pub length-front : (w : Wanted) (t : List ℕ) → handed w ≤ length t → length (sortedIds w ++ drop (handed w) t) ≡ length t
 length-front w t h = let e = length-ordered w in simp (length-append, length-drop) (omega (arith, e))
 
 -- ---- what the cursor has passed, and where it stands
@@ -93,14 +93,14 @@ module _ (s : List ℕ) (at id : ℕ) (B : Behind s at id) where
 
 -- ---- along the rows
 
-pub begun : (m s : List ℕ) → Walked m s 0 0
+pub begun : (m s : List ℕ) → CursorAt m s 0 0
 begun m s = record { fits = omega arith; below = λ i r h. absurd (omega arith) }
 
 module _ (m s : List ℕ) (row : ℕ) where
-  pub here : {cursor : ℕ} → Walked m s cursor row → row < rowsOf m → Behind s cursor (idAt m row)
+  pub here : {cursor : ℕ} → CursorAt m s cursor row → row < rowsOf m → Behind s cursor (idAt m row)
   here W h = record { fits = W .fits; below = λ i k. W .below i row k (omega arith) h }
 
-  pub turned-all : {cursor : ℕ} → Walked m s cursor row → Turned m true s row (record { eligible = true; cursor = cursor })
+  pub turned-all : {cursor : ℕ} → CursorAt m s cursor row → Turned m true s row (record { eligible = true; cursor = cursor })
   unfolding isEligible wants
   turned-all W = record { is = refl; next = record { fits = W .fits; below = λ i r h k l. W .below i r h (omega arith) l } }
 

@@ -1,4 +1,5 @@
--- The ids in order, and a cursor in them that goes along the rows: what the functions of the crate promise one another. Who is eligible
+-- Between functions: what they promise one another. No contract of an entry and no theorem rests on this file.
+-- The ids in order, and a cursor in them that goes along the rows. Who is eligible
 -- is search_spec's.
 use mathlib.Core.Path.{_≡_}
 use mathlib.Core.Bool.{Bool}
@@ -14,9 +15,9 @@ use Rattle.search_spec.specs.Lists.{isEligible}
 use Rattle.eligible.specs.declared.Found.{Found}
 
 -- what stands at the front of the id slice: the ids handed in, sorted, repeats with them; nothing where every id is wanted
-abbrev pub ordered : Wanted → List ℕ
-ordered every = []
-ordered (only ids) = sort leb ids
+abbrev pub sortedIds : Wanted → List ℕ
+sortedIds every = []
+sortedIds (only ids) = sort leb ids
 
 -- all before the cursor are below the id
 pub record Behind (s : List ℕ) (cursor id : ℕ) : Type 0 where
@@ -29,11 +30,11 @@ pub record Stepped (s : List ℕ) (id : ℕ) (r : Found) : Type 0 where
   pub behind : Behind s (r .cursor) id
 
 -- all before the cursor are below the ids of the row and of all later rows
-pub record Walked (m s : List ℕ) (cursor row : ℕ) : Type 0 where
+pub record CursorAt (m s : List ℕ) (cursor row : ℕ) : Type 0 where
   pub fits : cursor ≤ length s
   pub below : (i r : ℕ) → i < cursor → row ≤ r → r < rowsOf m → getD s i 0 < idAt m r
 
 -- whether the row is eligible, and a cursor for the next row
 pub record Turned (m : List ℕ) (all : Bool) (s : List ℕ) (row : ℕ) (r : Found) : Type 0 where
   pub is : r .eligible ≡ isEligible (given all s) everyone m row
-  pub next : Walked m s (r .cursor) (row + 1)
+  pub next : CursorAt m s (r .cursor) (row + 1)

@@ -7,11 +7,11 @@ ghost use Prim.Native.Nat.{_≤_, _<_};
 ghost use lib.Dec.{leb};
 ghost use lib.ListN.{length, drop};
 ghost use Rattle.rank.specs.Sort.{sort, Ascending};
-ghost use Rattle.format.specs.Layout.{Placed};
+ghost use Rattle.format.specs.Layout.{LaidOut};
 ghost use Rattle.entries.specs.Plan.{rowsOk};
 ghost use Rattle.search_spec.specs.Lent.{given, handed, everyone};
 ghost use Rattle.search_spec.specs.Lists.{eligible};
-ghost use Rattle.eligible.specs.Walk.{Behind, Stepped, Walked, Turned, ordered};
+ghost use Rattle.eligible.specs.Walk.{Behind, Stepped, CursorAt, Turned, sortedIds};
 use format::Layout;
 
 // Whether an id is among the sorted ids, or a row eligible; and the cursor for the next.
@@ -61,8 +61,8 @@ pub fn row_step(
     cursor: usize,
     row: usize,
 ) -> Found
-    requires { ⌜ Placed (now m) layout × (row < layout .rows) × (rowsOk (now m) ≡ true) ⌝ }
-    requires { ⌜ Ascending leb (now sorted) × Walked (now m) (now sorted) cursor row ⌝ }
+    requires { ⌜ LaidOut (now m) layout × (row < layout .rows) × (rowsOk (now m) ≡ true) ⌝ }
+    requires { ⌜ Ascending leb (now sorted) × CursorAt (now m) (now sorted) cursor row ⌝ }
     ensures { λ r. ⌜ Turned (now (m .entry)) all (now (sorted .entry)) row r ⌝ }
 {
     if all {
@@ -76,7 +76,7 @@ pub fn row_step(
 
 // How many rows are eligible.
 pub fn count(m: &[u8], layout: Layout, all: bool, sorted: &[u64]) -> usize
-    requires { ⌜ Placed (now m) layout × (rowsOk (now m) ≡ true) × Ascending leb (now sorted) ⌝ }
+    requires { ⌜ LaidOut (now m) layout × (rowsOk (now m) ≡ true) × Ascending leb (now sorted) ⌝ }
     ensures { λ r. ⌜ r ≡ length (eligible (given all (now (sorted .entry))) everyone (now (m .entry))) ⌝ }
 {
     if all {
@@ -98,7 +98,7 @@ pub fn count(m: &[u8], layout: Layout, all: bool, sorted: &[u64]) -> usize
 pub fn select(all: bool, ids: &[u64], work: &mut [u64]) -> usize
     requires { ⌜ handed (given all (now ids)) ≤ length (now work) ⌝ }
     ensures { λ r. ⌜ r ≡ handed (given all (now (ids .entry))) ⌝ }
-    ensures { λ _. ⌜ now (work .exit) ≡ ordered (given all (now (ids .entry))) ++ drop (handed (given all (now (ids .entry)))) (now (work .entry)) ⌝ }
+    ensures { λ _. ⌜ now (work .exit) ≡ sortedIds (given all (now (ids .entry))) ++ drop (handed (given all (now (ids .entry)))) (now (work .entry)) ⌝ }
 {
     if all {
         return 0;

@@ -9,7 +9,7 @@ use lib.Dec.{ltb}
 use borrow.Author.Tests.{ltb-true, leb-true, eqb-true, eq-eqb}
 use Rattle.le.proofs.Chain.{lt-or-le}
 use Rattle.config.specs.Limits.{maxMetadata, maxSegmentBytes}
-use Rattle.format.specs.Order.{within}
+use Rattle.utf8.specs.Grammar.{span}
 use Rattle.format.specs.Fields.{segmentsOf, rowsOf, lengthOf, idAt, segmentAt, offsetAt, metadataAt, recordLength}
 use Rattle.format.specs.Head.{badLength, lengthsOk}
 use Rattle.entries.specs.Plan.{rises, entryOk, badEntry, rowsOk}
@@ -27,7 +27,7 @@ rows-by m h e = rw (h, eq-eqb (badEntry m) (rowsOf m) e)
 pub length-bounds : (m : List ℕ) (n : ℕ) → lengthsOk m ≡ true → n < segmentsOf m → (4 ≤ lengthOf m n) × (lengthOf m n ≤ 67108864)
 unfolding lengthsOk
 length-bounds m n ok h =
-    in-range 4 maxSegmentBytes (lengthOf m n) (each-passes (λ k. within 4 maxSegmentBytes (lengthOf m k)) (segmentsOf m) n (eqb-true (badLength m) (segmentsOf m) ok) h)
+    in-range 4 maxSegmentBytes (lengthOf m n) (each-passes (λ k. span 4 maxSegmentBytes (lengthOf m k)) (segmentsOf m) n (eqb-true (badLength m) (segmentsOf m) ok) h)
 
 -- a row's entry keeps its rules
 pub record Entered (m : List ℕ) (r : ℕ) : Type 0 where

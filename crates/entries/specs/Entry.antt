@@ -1,3 +1,4 @@
+-- Between functions: what they promise one another. No contract of an entry and no theorem rests on this file.
 -- The entry of a row, as the functions that read it return it.
 use mathlib.Core.List.{List}
 use Prim.Native.Nat.{ℕ}

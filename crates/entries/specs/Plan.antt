@@ -39,10 +39,10 @@ rowsOk m = lengthsOk m && eqb (badEntry m) (rowsOf m)
 unfoldable pub crcOk : List ℕ → ℕ → Bool
 crcOk m expected = endsInCrc m && eqb (storedCrc m) expected
 
--- `room` is the length of the scratch
+-- `scratch` is the length of the scratch slice
 unfoldable pub planNumber : List ℕ → ℕ → ℕ → ℕ
-planNumber m expected room =
+planNumber m expected scratch =
     orElse (headNumber m)
     (unless (rowsOk m) 1
     (unless (crcOk m expected) 3
-    (unless (leb (rowsOf m) room) 11 0)))
+    (unless (leb (rowsOf m) scratch) 11 0)))

@@ -2,7 +2,7 @@
 ghost use mathlib.Core.Path.{_≡_};
 ghost use Prim.Native.Nat.{_+_, _*_, _≤_, _<_};
 ghost use lib.ListN.{length};
-ghost use Rattle.format.specs.Layout.{Placed};
+ghost use Rattle.format.specs.Layout.{LaidOut};
 ghost use Rattle.entries.specs.Entry.{entryAt};
 ghost use Rattle.entries.specs.Plan.{rises as rising, entryOk, badEntry, badEntryFrom, rowFrom, rowsOk, crcOk, planNumber};
 use format::Layout;
@@ -15,7 +15,7 @@ pub struct Entry {
 }
 
 pub fn read_entry(m: &[u8], layout: Layout, row: usize) -> Entry
-    requires { ⌜ Placed (now m) layout × (row < layout .rows) ⌝ }
+    requires { ⌜ LaidOut (now m) layout × (row < layout .rows) ⌝ }
     ensures { λ r. ⌜ r ≡ entryAt (now (m .entry)) row ⌝ }
 {
     let at = layout.entries + 20 * row;
@@ -28,7 +28,7 @@ pub fn read_entry(m: &[u8], layout: Layout, row: usize) -> Entry
 }
 
 fn rises(m: &[u8], layout: Layout, row: usize) -> bool
-    requires { ⌜ Placed (now m) layout × (row < layout .rows) ⌝ }
+    requires { ⌜ LaidOut (now m) layout × (row < layout .rows) ⌝ }
     ensures { λ r. ⌜ r ≡ rising (now (m .entry)) row ⌝ }
 {
     if row == 0 {
@@ -48,7 +48,7 @@ pub fn record_end(e: Entry, dimensions: usize) -> usize
 }
 
 pub fn entry_holds(m: &[u8], layout: Layout, row: usize) -> bool
-    requires { ⌜ Placed (now m) layout × (row < layout .rows) ⌝ }
+    requires { ⌜ LaidOut (now m) layout × (row < layout .rows) ⌝ }
     ensures { λ r. ⌜ r ≡ entryOk (now (m .entry)) row ⌝ }
 {
     let e = read_entry(m, layout, row);
@@ -65,7 +65,7 @@ pub fn entry_holds(m: &[u8], layout: Layout, row: usize) -> bool
 
 // The first row from a given one on whose entry breaks a rule, or the row count.
 pub fn bad_entry_from(m: &[u8], layout: Layout, first: usize) -> usize
-    requires { ⌜ Placed (now m) layout × (first ≤ layout .rows) ⌝ }
+    requires { ⌜ LaidOut (now m) layout × (first ≤ layout .rows) ⌝ }
     ensures { λ r. ⌜ r ≡ badEntryFrom (now (m .entry)) first ⌝ }
 {
     let mut row = first;
@@ -80,7 +80,7 @@ pub fn bad_entry_from(m: &[u8], layout: Layout, first: usize) -> usize
 
 // The first of all.
 pub fn bad_entry(m: &[u8], layout: Layout) -> usize
-    requires { ⌜ Placed (now m) layout ⌝ }
+    requires { ⌜ LaidOut (now m) layout ⌝ }
     ensures { λ r. ⌜ r ≡ badEntry (now (m .entry)) ⌝ }
 {
     bad_entry_from(m, layout, 0)
@@ -88,7 +88,7 @@ pub fn bad_entry(m: &[u8], layout: Layout) -> usize
 
 // The first row from a given one on whose id is not below this one, or the row count.
 pub fn seek(m: &[u8], layout: Layout, from: usize, id: u64) -> usize
-    requires { ⌜ Placed (now m) layout × (from ≤ layout .rows) ⌝ }
+    requires { ⌜ LaidOut (now m) layout × (from ≤ layout .rows) ⌝ }
     ensures { λ r. ⌜ r ≡ rowFrom (now (m .entry)) from id ⌝ }
 {
     let mut row = from;
@@ -103,7 +103,7 @@ pub fn seek(m: &[u8], layout: Layout, from: usize, id: u64) -> usize
 }
 
 fn rows_hold(m: &[u8], layout: Layout) -> bool
-    requires { ⌜ Placed (now m) layout ⌝ }
+    requires { ⌜ LaidOut (now m) layout ⌝ }
     ensures { λ r. ⌜ r ≡ rowsOk (now (m .entry)) ⌝ }
 {
     format::lengths_hold(m, layout) & (bad_entry(m, layout) == layout.rows)

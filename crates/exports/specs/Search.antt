@@ -5,13 +5,13 @@ use Prim.Native.Nat.{ℕ}
 use Rattle.config.specs.Refusal.{refused}
 use Rattle.format.specs.Head.{headNumber}
 use Rattle.quantized_cache.specs.Open.{openedBy}
-use Rattle.quantized_cache.specs.declared.State.{State}
+use Rattle.quantized_cache.specs.declared.CacheState.{CacheState}
 use Rattle.resident.specs.Build.{builtBy}
-use Rattle.resident.specs.declared.State.{State as ResidentState}
+use Rattle.resident.specs.declared.ResidentState.{ResidentState}
 use Rattle.search_spec.specs.declared.Searched.{Searched}
 
 -- the state that opening returns where it accepts manifest and cache; the zero one where the manifest's head does not pass
-abbrev pub cacheState : List ℕ → List ℕ → State
+abbrev pub cacheState : List ℕ → List ℕ → CacheState
 cacheState m cache = openedBy m cache (refused (headNumber m) 0) .state
 
 -- the same for resident rows, of the lengths of the slices as lent

@@ -13,7 +13,7 @@ ghost use Rattle.search_spec.specs.Lent.{answersOf, workOf, callOf, every, only
 ghost use Rattle.search_spec.specs.Outcome.{returned};
 ghost use Rattle.search_spec.specs.Kept.{cached as cachedOutcome, resident as residentOutcome};
 ghost use Rattle.exports.specs.Search.{cacheState, residentState, numbersOf};
-use geometry::Options;
+use cache_format::Options;
 use search_spec::Searched;
 
 // ---- The library check.
@@ -159,16 +159,16 @@ pub extern "C" fn pv_build(
 // caller lends.
 
 // The state that opening returns, made anew in each call: a head read once more.
-fn cache_state(m: &[u8], cache: &[u8]) -> quantized_cache::State
+fn cache_state(m: &[u8], cache: &[u8]) -> quantized_cache::CacheState
     ensures { λ r. ⌜ r ≡ cacheState (now (m .entry)) (now (cache .entry)) ⌝ }
 {
     if format::head_number(m) == 0 {
-        return quantized_cache::State {
+        return quantized_cache::CacheState {
             head: format::read_head(m),
             cache: cache.len(),
         };
     }
-    quantized_cache::State {
+    quantized_cache::CacheState {
         head: format::zero_head(),
         cache: 0,
     }
@@ -287,18 +287,18 @@ pub extern "C" fn pv_search_cached_ids(
     refusal.number
 }
 
-fn resident_state(m: &[u8], codes: &[i8], scales: &[f64], norms: &[i64]) -> resident::State
+fn resident_state(m: &[u8], codes: &[i8], scales: &[f64], norms: &[i64]) -> resident::ResidentState
     ensures { λ r. ⌜ r ≡ residentState (now (m .entry)) (length (now (codes .entry))) (length (now (scales .entry))) (length (now (norms .entry))) ⌝ }
 {
     if format::head_number(m) == 0 {
-        return resident::State {
+        return resident::ResidentState {
             head: format::read_head(m),
             codes: codes.len(),
             scales: scales.len(),
             norms: norms.len(),
         };
     }
-    resident::State {
+    resident::ResidentState {
         head: format::zero_head(),
         codes: 0,
         scales: 0,

@@ -15,7 +15,7 @@ use lib.Ieee.Scale.{finite}
 use lib.Ieee.Positive.{num, den, den-pos}
 use borrow.Author.Tests.{ltb-true, ltb-false}
 use Rattle.le.proofs.Chain.{by}
-use Rattle.float.specs.Values.{zero as nought, one}
+use Rattle.float.specs.Values.{plusZero, one}
 use Rattle.float.specs.Order.{negative}
 use Rattle.float.proofs.Within.{Within, holds, half, two}
 use Rattle.float.proofs.Bounds.{within-trans, within-pos, under, over, add-is, mul-is, mul-under, mul-over, round-sign, le-of-within}
@@ -39,12 +39,12 @@ plus-finite nan p = p
 plus-finite (inf s) p = p
 plus-finite (fin s m e) p = tt
 
-pub plus-le : (x : Float) → Plus x → T (le nought x)
+pub plus-le : (x : Float) → Plus x → T (le plusZero x)
 unfolding le
 plus-le nan p = absurd p
 plus-le (inf s) p = absurd p
 plus-le (fin true m e) p = rw (p, zero-mul (up e), zero-mul (down e)) tt
-plus-le (fin false m e) p = le-of-within nought (fin false m e) refl refl (record { fine = tt; bound = tt; order = rw (zero-mul (down e)) zero-le })
+plus-le (fin false m e) p = le-of-within plusZero (fin false m e) refl refl (record { fine = tt; bound = tt; order = rw (zero-mul (down e)) zero-le })
 
 -- a square has none
 pub square-plain : (f : Format) (x : Float) → T (finite x) → negative (mul f x x) ≡ false
@@ -82,10 +82,10 @@ second X dx Y dy =
     let e : Y * (dx * dy) ≡ Y * dx * dy = sym (mul-assoc Y dx dy) in
     rw (add-mul (X * dy) (Y * dx) dy) (omega arith)
 
-pub zero-within : (x : Float) → T (finite x) → num x ≡ 0 → Within x nought
+pub zero-within : (x : Float) → T (finite x) → num x ≡ 0 → Within x plusZero
 zero-within x h e = record { fine = h; bound = tt; order = rw e (omega arith) }
 
-pub within-zero : (x : Float) → Within x nought → num x ≡ 0
+pub within-zero : (x : Float) → Within x plusZero → num x ≡ 0
 within-zero x w = let h = w .order in omega arith
 
 module _ (f : Format) (x y : Float) (p : Plus x) (h : T (finite y)) (q : negative y ≡ false) where
@@ -111,7 +111,7 @@ module _ (f : Format) (x y : Float) (p : Plus x) (h : T (finite y)) (q : negativ
   pub none : num x ≡ 0 → num y ≡ 0 → num (add f x y) ≡ 0
   none a b =
       let z : n * 1 ≤ 0 * d = rw (a, b, zero-mul (den x), zero-mul (den y)) zero-le in
-      rw (add-plus-is f x y p h q) (within-zero (round f false n d) (under f false n d nought (zero-holds f false) some z))
+      rw (add-plus-is f x y p h q) (within-zero (round f false n d) (under f false n d plusZero (zero-holds f false) some z))
 
 -- ---- 0, or lo at least
 abbrev pub Low : Float → Float → Type 0
@@ -130,7 +130,7 @@ pub square-low : (x : Float) → T (fits binary32 x) → T (finite x) → Low (h
 square-low x t h =
     let c = under-top binary32 x t h in
     elim (low-of binary32 148 x refl t h) [
-      | inl e ↦ let z = zero-within x h e in inl (within-zero (mul binary64 x x) (mul-under binary64 nought z z tt))
+      | inl e ↦ let z = zero-within x h e in inl (within-zero (mul binary64 x x) (mul-under binary64 plusZero z z tt))
       | inr w ↦ inr (mul-over binary64 (half 297) w w tt (lit≤ tt) (mul-under binary64 (two 256) c c tt .fine))
     ]
 

@@ -9,7 +9,7 @@ use lib.Dec.{T, ltb, leb}
 use borrow.Author.Tests.{lt-ltb, le-ltb, lt-leb, le-leb, leb-true}
 use lib.Ieee.{Float, nan, inf, fin, binary64, up, down, ofBits, toBits, lt, fits, isNan}
 use lib.Ieee.Bits.{ofBits-toBits, toBits-lt}
-use Rattle.float.specs.Order.{negative, bySign, totalBelow, totalLe, keyOf, bitsOf}
+use Rattle.float.specs.Order.{negative, bySign, totalBelow, totalLe, keyOf, bitsOf, keyed}
 use Rattle.float.proofs.BitLaws.{number-below, bits-number, finite-number}
 use Rattle.float.proofs.Within.{Within}
 use Rattle.float.proofs.Patterns.{same-ltb, sign-bits, lt-signed}
@@ -89,9 +89,6 @@ key-order a b f g =
         (same-ltb (b % 2 ^ 63) (a % 2 ^ 63) (2 ^ 64 - 1 - a) (2 ^ 64 - 1 - b) (λ l. omega (arith, f .word, g .word)) (λ l. omega (arith, f .word, g .word)))
 
 -- ---- the same over floats
-abbrev pub keyed : Float → ℕ
-keyed x = keyOf (toBits binary64 x)
-
 pub not-nan : (x : Float) → T (fits binary64 x) → T (not (isNan x)) → NotNan (toBits binary64 x)
 not-nan x f n = record { word = toBits-lt binary64 x f; number = number-below binary64 (toBits binary64 x) (rw (ofBits-toBits binary64 x f) n) }
 

@@ -13,7 +13,7 @@ use lib.Ieee.Scale.{finite}
 use lib.Ieee.Positive.{num, den}
 use borrow.Author.Tests.{ltb-false, lt-ltb, eq-eqb}
 use Rattle.le.proofs.Chain.{by}
-use Rattle.float.specs.Values.{zero as nought, two}
+use Rattle.float.specs.Values.{plusZero, two}
 use Rattle.float.specs.Hold.{maxZero, clamp}
 use Rattle.float.specs.Order.{negative}
 use Rattle.float.proofs.BitLaws.{finite-number}
@@ -110,9 +110,9 @@ clamp-in lo hi x a b n =
     let h = le-of-not-lt hi x (finite-number hi (b .fine)) n d in
     rw d (record { fine = between-fine lo hi x (a .fine) (b .fine) l h; low = l; high = h }))))
 
-pub hold-in : (x : Float) → T (not (isNan x)) → In nought two (clamp nought two x)
+pub hold-in : (x : Float) → T (not (isNan x)) → In plusZero two (clamp plusZero two x)
 unfolding le
-hold-in x n = clamp-in nought two x (record { fine = tt; low = tt; high = tt }) (record { fine = tt; low = tt; high = tt }) n
+hold-in x n = clamp-in plusZero two x (record { fine = tt; low = tt; high = tt }) (record { fine = tt; low = tt; high = tt }) n
 
 pub clamp-nan : (lo hi : Float) → clamp lo hi nan ≡ nan
 unfolding clamp lt
@@ -126,7 +126,7 @@ unfolding maxZero lt isNan
 max-zero-number nan = tt
 max-zero-number (inf true) = tt
 max-zero-number (inf false) = tt
-max-zero-number (fin s m e) = cond-number (below false (0 * 1 * down e) s (m * up e * 1)) (fin s m e) nought tt tt
+max-zero-number (fin s m e) = cond-number (below false (0 * 1 * down e) s (m * up e * 1)) (fin s m e) plusZero tt tt
 
 pub max-zero-plain : (x : Float) → negative (maxZero x) ≡ false
 unfolding maxZero lt
@@ -136,7 +136,7 @@ max-zero-plain (inf false) = refl
 max-zero-plain (fin true m e) = refl
 max-zero-plain (fin false m e) = pick (ltb (0 * 1 * down e) (m * up e * 1))
   where
-    pick : (b : Bool) → negative (cond b (fin false m e) nought) ≡ false
+    pick : (b : Bool) → negative (cond b (fin false m e) plusZero) ≡ false
     pick true = refl
     pick false = refl
 
@@ -150,7 +150,7 @@ pub record MaxNum (x y r : Float) : Type 0 where
   pub equal : eq x y ≡ true → (r ≡ x) ⊎ (r ≡ y)
 
 -- so `maxZero` is that maximum of x and +0, but that at -0 the maximum may be -0
-pub max-zero-is : (f : Format) (x r : Float) → T (fits f x) → (x ≡ minusZero → ⊥) → MaxNum x nought r → r ≡ maxZero x
+pub max-zero-is : (f : Format) (x r : Float) → T (fits f x) → (x ≡ minusZero → ⊥) → MaxNum x plusZero r → r ≡ maxZero x
 unfolding maxZero lt
 max-zero-is f nan r t n h = h .nan-first (unfold isNan in refl)
 max-zero-is f (inf true) r t n h = h .below refl
@@ -158,19 +158,19 @@ max-zero-is f (inf false) r t n h = h .above refl
 max-zero-is f (fin true zero e) r t n h = absurd (n (zero-is f true e t))
 max-zero-is f (fin false zero e) r t n h =
     let z = zero-is f false e t in
-    subst (λ (x : Float). r ≡ maxZero x) (sym z) (same (subst (λ (x : Float). MaxNum x nought r) z h))
+    subst (λ (x : Float). r ≡ maxZero x) (sym z) (same (subst (λ (x : Float). MaxNum x plusZero r) z h))
   where
-    same : MaxNum nought nought r → r ≡ nought
+    same : MaxNum plusZero plusZero r → r ≡ plusZero
     same g = elim (g .equal (unfold eq in refl)) [ inl z ↦ z | inr z ↦ z ]
 max-zero-is f (fin true (suc m) e) r t n h =
     let k : 0 < suc m * up e = mul-pos (zero-lt-suc m) (up-pos e) in
     h .below (rw (zero-mul (down e)) (lt-ltb 0 (suc m * up e * 1 + 0) (omega arith)))
 max-zero-is f (fin false (suc m) e) r t n h =
     let k : 0 < suc m * up e = mul-pos (zero-lt-suc m) (up-pos e) in
-    let l : lt nought (fin false (suc m) e) ≡ true = rw (zero-mul (down e)) (lt-ltb 0 (suc m * up e * 1) (omega arith)) in
+    let l : lt plusZero (fin false (suc m) e) ≡ true = rw (zero-mul (down e)) (lt-ltb 0 (suc m * up e * 1) (omega arith)) in
     rw l (h .above l)
 
 -- and on what document 01 floors at 0, two values that have no sign less a third, it is that maximum
 pub max-zero-sub : (f : Format) (x y z r : Float) → negative x ≡ false → negative y ≡ false → T (fits f z)
-    → MaxNum (sub f (add f x y) z) nought r → r ≡ maxZero (sub f (add f x y) z)
+    → MaxNum (sub f (add f x y) z) plusZero r → r ≡ maxZero (sub f (add f x y) z)
 max-zero-sub f x y z r p q t h = max-zero-is f (sub f (add f x y) z) r (sub-fits f (add f x y) z) (never-minus f x y z p q t) h

@@ -19,7 +19,7 @@ use lib.Ieee.Nearest.{div-mono}
 use lib.Ieee.Order.{transfer}
 use lib.Ieee.Scale.{finite}
 use Rattle.le.proofs.Chain.{by}
-use Rattle.float.specs.Values.{zero as nought, abs}
+use Rattle.float.specs.Values.{plusZero, abs}
 use Rattle.float.specs.Order.{negative}
 use Rattle.float.proofs.BitLaws.{value-finite, value-sign, finite-number, number-below}
 
@@ -205,7 +205,7 @@ lt-bits f a b h k =
     rw (x, y) at (lt-signed f false a b (lt-leb (top f) a u) (lt-leb (top f) b w) (rw x h) (rw y k))
 
 -- ---- finite and above 0, by the bits
-not-above : (x : Float) → negative x ≡ true → lt nought x ≡ false
+not-above : (x : Float) → negative x ≡ true → lt plusZero x ≡ false
 unfolding lt
 not-above nan h = refl
 not-above (inf true) h = refl
@@ -213,14 +213,14 @@ not-above (inf false) h = absurd (false≢true h)
 not-above (fin true m e) h = refl
 not-above (fin false m e) h = absurd (false≢true h)
 
-zero-bits : nought ≡ ofBits binary64 0
+zero-bits : plusZero ≡ ofBits binary64 0
 unfolding ofBits
 zero-bits = refl
 
-pub above-bits : (b : ℕ) → (ltb 0 b && ltb b 9218868437227405312) ≡ (finite (ofBits binary64 b) && lt nought (ofBits binary64 b))
+pub above-bits : (b : ℕ) → (ltb 0 b && ltb b 9218868437227405312) ≡ (finite (ofBits binary64 b) && lt plusZero (ofBits binary64 b))
 above-bits b = go (decLt b 9218868437227405312)
   where
-    go : Dec (b < 9218868437227405312) → (ltb 0 b && ltb b 9218868437227405312) ≡ (finite (ofBits binary64 b) && lt nought (ofBits binary64 b))
+    go : Dec (b < 9218868437227405312) → (ltb 0 b && ltb b 9218868437227405312) ≡ (finite (ofBits binary64 b) && lt plusZero (ofBits binary64 b))
     go (yes h) =
         let e : b % top binary64 ≡ b = omega arith in
         let n = is-true (finite (ofBits binary64 b)) (bits-finite binary64 b (rw e h)) in
@@ -228,7 +228,7 @@ above-bits b = go (decLt b 9218868437227405312)
         rw (n, a, lt-ltb b 9218868437227405312 h) (and-true (ltb 0 b))
     go (no h) = rw (le-ltb b 9218868437227405312 (omega arith), and-false (ltb 0 b)) (sym (by (finite (ofBits binary64 b)) above (λ e. rw e)))
       where
-        above : finite (ofBits binary64 b) ≡ true → (finite (ofBits binary64 b) && lt nought (ofBits binary64 b)) ≡ false
+        above : finite (ofBits binary64 b) ≡ true → (finite (ofBits binary64 b) && lt plusZero (ofBits binary64 b)) ≡ false
         above e =
             let s = small-bits binary64 b (rw e tt) in
             let t : top binary64 ≤ b = omega arith in

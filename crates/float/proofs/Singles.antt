@@ -14,7 +14,7 @@ use lib.Ieee.Fits.{up-pos, and-l, and-r, and-i}
 use lib.Ieee.Scale.{finite}
 use lib.Ieee.Positive.{num, den, positive, first-pos}
 use borrow.Author.Tests.{ne-eqb}
-use Rattle.float.specs.Values.{zero as nought, abs}
+use Rattle.float.specs.Values.{plusZero, abs}
 use Rattle.float.specs.Order.{negative}
 use Rattle.float.proofs.Within.{Within, holds, two, half}
 use Rattle.float.proofs.Bounds.{pow-back}
@@ -33,7 +33,7 @@ positive-parts (fin true m e) h = absurd h
 positive-parts (fin false m e) h = (tt, refl, mul-pos (ltb→lt 0 m h) (up-pos e))
 
 -- as the test `== 0.0` finds it
-pub not-zero : (x : Float) → T (finite x) → negative x ≡ false → eq x nought ≡ false → T (positive x)
+pub not-zero : (x : Float) → T (finite x) → negative x ≡ false → eq x plusZero ≡ false → T (positive x)
 unfolding eq
 not-zero nan f p h = absurd f
 not-zero (inf s) f p h = absurd f
@@ -41,7 +41,7 @@ not-zero (fin true m e) f p h = absurd (true≢false p)
 not-zero (fin false zero e) f p h = absurd (true≢false (rw (zero-mul (up e), zero-mul (down e)) at h))
 not-zero (fin false (suc m) e) f p h = lt→ltb 0 (suc m) (omega arith)
 
-pub is-not-zero : (x : Float) → T (positive x) → eq x nought ≡ false
+pub is-not-zero : (x : Float) → T (positive x) → eq x plusZero ≡ false
 unfolding eq
 is-not-zero nan h = absurd h
 is-not-zero (inf s) h = absurd h

@@ -10,9 +10,9 @@ use borrow.Author.Tests.{ltb-true, ltb-false, le-ltb, eqb-true, eqb-false, eq-eq
 use lib.Ieee.{Float, nan, inf, fin, binary64, lt, fits, isNan}
 use lib.Ieee.Positive.{num, den, den-pos, through}
 use Rattle.le.proofs.Chain.{by}
-use Rattle.float.specs.Order.{totalBelow, totalLe}
+use Rattle.float.specs.Order.{totalBelow, totalLe, keyed}
 use Rattle.float.proofs.BitLaws.{is-nan}
-use Rattle.float.proofs.Keys.{keyed, key-below, key-same}
+use Rattle.float.proofs.Keys.{key-below, key-same}
 
 -- ---- the order by kind, and within a kind by size
 

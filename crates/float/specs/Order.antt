@@ -3,7 +3,7 @@
 use Prim.Native.Nat.{ℕ, _+_, _-_, _^_}
 use mathlib.Core.Bool.{Bool, true, false, not, _&&_, _||_, cond}
 use lib.Dec.{ltb}
-use lib.Ieee.{Float, nan, inf, fin, lt, isNan}
+use lib.Ieee.{Float, nan, inf, fin, lt, isNan, binary64, toBits}
 
 -- a sign, which a NaN has not
 abbrev pub negative : Float → Bool
@@ -31,6 +31,10 @@ totalLe x y = not (totalBelow y x)
 -- the key of a pattern of 64 bits, and the pattern of a key: a negative number's pattern is reversed, and comes below
 unfoldable pub keyOf : ℕ → ℕ
 keyOf b = cond (ltb b (2 ^ 63)) (b + 2 ^ 63) (2 ^ 64 - 1 - b)
+
+-- of a float
+abbrev pub keyed : Float → ℕ
+keyed x = keyOf (toBits binary64 x)
 
 unfoldable pub bitsOf : ℕ → ℕ
 bitsOf k = cond (ltb k (2 ^ 63)) (2 ^ 64 - 1 - k) (k - 2 ^ 63)

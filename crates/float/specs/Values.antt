@@ -8,8 +8,8 @@ use Rattle.float.specs.declared.Number.{Number}
 use Rattle.float.specs.declared.Number.the-variants.{Finite, NonFinite}
 
 -- +0, 1 and 2 (document 01, The arithmetic: "at least 0, a NaN becoming +0", "Cosine is 1 - ..", "held in 0..2")
-abbrev pub zero : Float
-zero = fin false 0 (pos 0)
+abbrev pub plusZero : Float
+plusZero = fin false 0 (pos 0)
 
 abbrev pub one : Float
 one = fin false 1 (pos 0)

@@ -8,7 +8,7 @@ ghost use lib.ListN.{length};
 ghost use lib.Ieee.{binary32, binary64, ofBits, toBits, isNan};
 ghost use lib.Ieee.Scale.{finite};
 ghost use Rattle.le.specs.Le.{leAt};
-ghost use Rattle.float.specs.Values.{number, zero, two};
+ghost use Rattle.float.specs.Values.{number, plusZero, two};
 ghost use Rattle.float.specs.Hold.{maxZero, clamp};
 ghost use Rattle.float.specs.Order.{keyOf, bitsOf};
 
@@ -104,7 +104,7 @@ pub fn max_zero(x: f64) -> f64
 
 // Held in 0..2.
 pub fn hold(x: f64) -> f64
-    ensures { λ r. ⌜ r ≡ clamp zero two x ⌝ }
+    ensures { λ r. ⌜ r ≡ clamp plusZero two x ⌝ }
 {
     if x < 0.0 {
         return 0.0;

@@ -12,10 +12,10 @@ use Rattle.config.proofs.Refusals.{not-zero}
 use Rattle.config.specs.Limits.{maxManifestBytes, maxSegments, maxRecords}
 use Rattle.config.specs.Metric.{metricOf, isMetric}
 use Rattle.config.specs.Space.{validConfig}
-use Rattle.format.specs.Order.{within}
+use Rattle.utf8.specs.Grammar.{span}
 use Rattle.format.specs.Fields.{metricByte, modelLength, dimensionsOf, mOf, efOf, segmentsOf, rowsOf, entriesAt}
 use Rattle.format.specs.Head.{opensOk, kindOk, identityOk, countsOk, headNumber}
-use Rattle.format.specs.Layout.{Placed}
+use Rattle.format.specs.Layout.{LaidOut}
 use Rattle.format.specs.declared.Layout.{Layout}
 
 pub both : {a b : Bool} → (a && b) ≡ true → (a ≡ true) × (b ≡ true)
@@ -39,7 +39,8 @@ headed m e =
     let f = held (countsOk m) not-zero (d .1) in
     record { opened = a .0; kind = b .0; model-ends = c .0; identity = d .0; counts = f .0 }
 
-pub in-range : (a b x : ℕ) → within a b x ≡ true → (a ≤ x) × (x ≤ b)
+pub in-range : (a b x : ℕ) → span a b x ≡ true → (a ≤ x) × (x ≤ b)
+unfolding span
 in-range a b x h = let p = both h in (leb-true a x (p .0), leb-true x b (p .1))
 
 pub length-in : (m : List ℕ) → opensOk m ≡ true → (66 ≤ length m) × (length m ≤ 67108864)
@@ -89,7 +90,7 @@ bounds m e =
     }
 
 -- what lies where a layout says
-module _ {m : List ℕ} {l : Layout} (p : Placed m l) where
+module _ {m : List ℕ} {l : Layout} (p : LaidOut m l) where
   pub table-in : {n : ℕ} → n < l .segments → l .table + 12 * n + 12 ≤ length m
   unfolding entriesAt
   table-in h = let s = p .segments in let t = p .table in let e = p .end in omega (arith, s, t, e)

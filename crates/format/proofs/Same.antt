@@ -19,7 +19,7 @@ use Rattle.config.proofs.Metrics.{metric-bytes}
 use Rattle.config.specs.declared.Config.{Config}
 use Rattle.config.specs.declared.Metric.{Metric}
 use Rattle.config.specs.declared.Metric.the-variants.{SquaredL2, Cosine, InnerProduct}
-use Rattle.format.specs.Order.{within}
+use Rattle.utf8.specs.Grammar.{span}
 use Rattle.format.specs.Fields.{magic, generationOf, sequenceOf, dimensionsOf, mOf, efOf, seedOf, metricByte, metricIn, metricAt, modelLength, modelOf, segmentsOf, rowsOf, tableAt, lengthOf}
 use Rattle.format.specs.Head.{opensOk, kindOk, identityOk, countsOk, headNumber, lengthsOk, headAt, zeroHead}
 use Rattle.format.specs.Same.{sameBytes, sameConfig, sameFields, sameHead}
@@ -127,7 +127,7 @@ unfolding lengthsOk
 lengths-in m h n l = in-range 4 maxSegmentBytes (lengthOf m n) (each-passes _ (segmentsOf m) n (eqb-true _ (segmentsOf m) h) l)
 
 lengths-hold : (m : List ℕ) → LengthsIn m → lengthsOk m ≡ true
-unfolding lengthsOk
+unfolding lengthsOk span
 lengths-hold m h =
     eq-eqb _ (segmentsOf m) (all-pass _ (segmentsOf m) (λ n l. let p = h n l in rw (le-leb 4 (lengthOf m n) (p .0), le-leb (lengthOf m n) maxSegmentBytes (p .1))))
 
@@ -192,7 +192,7 @@ model-long m e = length-take-le (modelLength m) (drop 49 m) (rw (length-drop 49 
 
 magic-in : (m : List ℕ) → headNumber m ≡ 0 → leAt 8 m 0 ≡ le magic
 unfolding opensOk
-magic-in m e = eqb-true (leAt 8 m 0) (le magic) (both {a = within 66 maxManifestBytes (length m)} (headed m e .opened) .1)
+magic-in m e = eqb-true (leAt 8 m 0) (le magic) (both {a = span 66 maxManifestBytes (length m)} (headed m e .opened) .1)
 
 byte-in : (m : List ℕ) → headNumber m ≡ 0 → byteOf (metricAt m) ≡ metricByte m
 unfolding kindOk metricAt

@@ -6,23 +6,24 @@ use mathlib.Core.List.{List, _++_}
 use Prim.Native.Nat.{ℕ, _+_, _-_, _*_}
 use lib.Dec.{leb, eqb}
 use lib.ListN.{length, replicate}
+use Rattle.utf8.specs.Grammar.{span}
 use Rattle.le.specs.Le.{le, leAt}
 use Rattle.config.specs.Limits.{maxManifestBytes, maxSegments, maxRecords, maxSegmentBytes}
 use Rattle.config.specs.Metric.{metricOf, isMetric}
 use Rattle.config.specs.Space.{validConfig, validSpace}
 use Rattle.config.specs.declared.Metric.the-variants.{SquaredL2}
 use Rattle.config.specs.declared.Config.{Config}
-use Rattle.format.specs.Order.{unless, within, firstBad}
+use Rattle.format.specs.Order.{unless, firstBad}
 use Rattle.format.specs.Fields.{magic, generationOf, sequenceOf, dimensionsOf, mOf, efOf, seedOf, metricByte, metricAt, modelLength, modelOf, segmentsOf, rowsOf, lengthOf}
 use Rattle.format.specs.declared.Head.{Head}
 
 -- 1: length and magic
 unfoldable pub opensOk : List ℕ → Bool
-opensOk m = within 66 maxManifestBytes (length m) && eqb (leAt 8 m 0) (le magic)
+opensOk m = span 66 maxManifestBytes (length m) && eqb (leAt 8 m 0) (le magic)
 
 -- 2: the metric byte and the model's length, whether or not the model is cut short
 unfoldable pub kindOk : List ℕ → Bool
-kindOk m = isMetric (metricOf (metricByte m)) && within 1 512 (modelLength m)
+kindOk m = isMetric (metricOf (metricByte m)) && span 1 512 (modelLength m)
 
 -- 2: dimensions, m, ef, the model's UTF-8 and NUL
 unfoldable pub identityOk : List ℕ → Bool
@@ -46,7 +47,7 @@ headNumber m =
 
 -- document 01, What each place turns away: 21, "a segment length is outside 4 to 67,108,864"; the same is 1 for the manifest
 abbrev pub badLength : List ℕ → ℕ
-badLength m = firstBad (λ n. within 4 maxSegmentBytes (lengthOf m n)) (segmentsOf m)
+badLength m = firstBad (λ n. span 4 maxSegmentBytes (lengthOf m n)) (segmentsOf m)
 
 unfoldable pub lengthsOk : List ℕ → Bool
 lengthsOk m = eqb (badLength m) (segmentsOf m)

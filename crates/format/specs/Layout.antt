@@ -1,3 +1,4 @@
+-- Between functions: what they promise one another. No contract of an entry and no theorem rests on this file.
 -- Where the parts of a manifest whose head passes its tests lie, as the functions that read them take it.
 use mathlib.Core.Path.{_≡_}
 use mathlib.Core.List.{List}
@@ -6,7 +7,7 @@ use lib.ListN.{length}
 use Rattle.format.specs.Fields.{dimensionsOf, segmentsOf, rowsOf, tableAt, entriesAt}
 use Rattle.format.specs.declared.Layout.{Layout}
 
-pub record Placed (m : List ℕ) (l : Layout) : Type 0 where
+pub record LaidOut (m : List ℕ) (l : Layout) : Type 0 where
   pub dimensions : l .dimensions ≡ dimensionsOf m
   pub segments : l .segments ≡ segmentsOf m
   pub rows : l .rows ≡ rowsOf m

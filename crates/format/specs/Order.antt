@@ -1,7 +1,7 @@
 -- Tests in the order of document 01's tables ("Manifest checks run in the order `read_manifest` reads", "5 for the lowest bad row").
-use mathlib.Core.Bool.{Bool, cond, _&&_}
+use mathlib.Core.Bool.{Bool, cond}
 use Prim.Native.Nat.{ℕ, zero, suc, _+_, _-_}
-use lib.Dec.{leb, eqb}
+use lib.Dec.{eqb}
 use Rattle.config.specs.Refusal.{none}
 use Rattle.config.specs.declared.Refusal.{Refusal}
 
@@ -12,9 +12,6 @@ unless ok number rest = cond ok rest number
 -- an earlier table's number, before the rest
 abbrev pub orElse : ℕ → ℕ → ℕ
 orElse number rest = cond (eqb number 0) rest number
-
-abbrev pub within : ℕ → ℕ → ℕ → Bool
-within low high x = leb low x && leb x high
 
 -- the first number from i on that fails, of k of them; i + k where none does
 unfoldable pub firstFrom : (ℕ → Bool) → ℕ → ℕ → ℕ

@@ -6,10 +6,10 @@ ghost use Prim.Native.Nat.{_+_, _-_, _≤_, _<_};
 ghost use lib.Dec.{eqb};
 ghost use lib.ListN.{length, take, drop, replicate};
 ghost use Rattle.le.specs.Le.{leAt};
-ghost use Rattle.format.specs.Order.{within as inside};
+ghost use Rattle.utf8.specs.Grammar.{span as inside};
 ghost use Rattle.format.specs.Fields.{modelLength, metricAt, lengthOf, crcOf};
 ghost use Rattle.format.specs.Head.{opensOk, kindOk, identityOk, countsOk, headNumber, badLength, lengthsOk, configAt, headAt, zeroHead};
-ghost use Rattle.format.specs.Layout.{Placed};
+ghost use Rattle.format.specs.Layout.{LaidOut};
 ghost use Rattle.format.specs.Same.{sameBytes, sameConfig, sameFields, sameHead};
 use config::Config;
 use config::Metric;
@@ -52,7 +52,7 @@ fn count_at(m: &[u8], at: usize) -> usize
     wide(le::u32_at(m, at))
 }
 
-fn within(low: usize, high: usize, x: usize) -> bool
+fn span(low: usize, high: usize, x: usize) -> bool
     ensures { λ r. ⌜ r ≡ inside low high x ⌝ }
 {
     (low <= x) & (x <= high)
@@ -126,7 +126,7 @@ fn counts_hold(m: &[u8], model: usize) -> bool
 fn opens(m: &[u8]) -> bool
     ensures { λ r. ⌜ r ≡ opensOk (now (m .entry)) ⌝ }
 {
-    if within(66, config::MAX_MANIFEST_BYTES, m.len()) {
+    if span(66, config::MAX_MANIFEST_BYTES, m.len()) {
         return le::u64_at(m, 0) == MAGIC;
     }
     false
@@ -136,7 +136,7 @@ fn kind_holds(m: &[u8]) -> bool
     requires { ⌜ 66 ≤ length (now m) ⌝ }
     ensures { λ r. ⌜ r ≡ kindOk (now (m .entry)) ⌝ }
 {
-    (m[44] <= 2) & within(1, 512, count_at(m, 45))
+    (m[44] <= 2) & span(1, 512, count_at(m, 45))
 }
 
 // The number of the first of the head's tests that fails, or 0.
@@ -218,7 +218,7 @@ pub fn zero_head() -> Head
 
 pub fn read_layout(m: &[u8]) -> Layout
     requires { ⌜ headNumber (now m) ≡ 0 ⌝ }
-    ensures { λ r. ⌜ Placed (now (m .entry)) r ⌝ }
+    ensures { λ r. ⌜ LaidOut (now (m .entry)) r ⌝ }
 {
     let model = count_at(m, 45);
     let segments = count_at(m, 49 + model);
@@ -232,14 +232,14 @@ pub fn read_layout(m: &[u8]) -> Layout
 }
 
 pub fn segment_length(m: &[u8], layout: Layout, n: usize) -> u64
-    requires { ⌜ Placed (now m) layout × (n < layout .segments) ⌝ }
+    requires { ⌜ LaidOut (now m) layout × (n < layout .segments) ⌝ }
     ensures { λ r. ⌜ r ≡ lengthOf (now (m .entry)) n ⌝ }
 {
     le::u64_at(m, layout.table + 12 * n)
 }
 
 pub fn segment_crc(m: &[u8], layout: Layout, n: usize) -> u32
-    requires { ⌜ Placed (now m) layout × (n < layout .segments) ⌝ }
+    requires { ⌜ LaidOut (now m) layout × (n < layout .segments) ⌝ }
     ensures { λ r. ⌜ r ≡ crcOf (now (m .entry)) n ⌝ }
 {
     le::u32_at(m, layout.table + 12 * n + 8)
@@ -247,7 +247,7 @@ pub fn segment_crc(m: &[u8], layout: Layout, n: usize) -> u32
 
 // The first segment whose length is out of bounds, or their count.
 fn bad_length(m: &[u8], layout: Layout) -> usize
-    requires { ⌜ Placed (now m) layout ⌝ }
+    requires { ⌜ LaidOut (now m) layout ⌝ }
     ensures { λ r. ⌜ r ≡ badLength (now (m .entry)) ⌝ }
 {
     let mut n = 0;
@@ -262,7 +262,7 @@ fn bad_length(m: &[u8], layout: Layout) -> usize
 }
 
 pub fn lengths_hold(m: &[u8], layout: Layout) -> bool
-    requires { ⌜ Placed (now m) layout ⌝ }
+    requires { ⌜ LaidOut (now m) layout ⌝ }
     ensures { λ r. ⌜ r ≡ lengthsOk (now (m .entry)) ⌝ }
 {
     bad_length(m, layout) == layout.segments

@@ -1,3 +1,4 @@
+-- Between functions: what they promise one another. No contract of an entry and no theorem rests on this file.
 -- The query as it is kept for a search (document 01, The arithmetic): its own row, for the scan, and its coordinates as f64, for the records.
 use mathlib.Core.Path.{_≡_}
 use mathlib.Core.List.{List}

@@ -7,7 +7,7 @@ ghost use Rattle.config.specs.Refusal.{none};
 ghost use Rattle.config.specs.Vector.{finites};
 ghost use Rattle.quantization.specs.Encoder.{Levels};
 ghost use Rattle.format.specs.Head.{headNumber};
-ghost use Rattle.format.specs.Layout.{Placed};
+ghost use Rattle.format.specs.Layout.{LaidOut};
 ghost use Rattle.search_spec.specs.Lent.{given, handed};
 ghost use Rattle.search_spec.specs.Tests.{answersOk, candidatesOk, roomOk, openBy, queryBy, frontBy, entriesRefusal};
 ghost use Rattle.front.specs.Query.{Read};
@@ -119,7 +119,7 @@ pub fn front(
 
 // 21 at the first bad one.
 pub fn entries(m: &[u8], layout: Layout) -> Refusal
-    requires { ⌜ Placed (now m) layout ⌝ }
+    requires { ⌜ LaidOut (now m) layout ⌝ }
     ensures { λ r. ⌜ r ≡ entriesRefusal (now (m .entry)) none ⌝ }
 {
     let bad = entries::bad_entry(m, layout);

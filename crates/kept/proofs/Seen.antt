@@ -14,9 +14,9 @@ use Rattle.shortlist.specs.Shortlist.{ShortlistIs}
 use Rattle.shortlist.specs.declared.Shortlisted.{Shortlisted}
 use Rattle.format.specs.Fields.{rowsOf, dimensionsOf}
 use Rattle.format.proofs.Heads.{both}
-use Rattle.geometry.specs.Cache.{rowLength}
+use Rattle.cache_format.specs.Cache.{rowLength}
 use Rattle.quantized_cache.specs.Open.{RoomFor, cachedAt, cacheLengthOk}
-use Rattle.resident.specs.Build.{residentAt, lengthsOk, roomOk}
+use Rattle.resident.specs.Build.{residentAt, residentLengthsOk, residentRoomOk}
 use Rattle.search_spec.specs.Lent.{base}
 use Rattle.search_spec.specs.Kept.{cachedRows, residentRows}
 use Rattle.kept.specs.Seen.{seen}
@@ -43,9 +43,9 @@ module _ (kept : Kept) (m cache : List ℕ) (codes : List ℤ) (scales : List Fl
 
   pub resident-room : kept .resident ≡ true → seen kept m cache codes scales norms .lengthOk ≡ true
       → (rowsOf m * dimensionsOf m ≤ length codes) × (rowsOf m ≤ length scales) × (rowsOf m ≤ length norms)
-  unfolding residentRows lengthsOk
+  unfolding residentRows residentLengthsOk
   resident-room e h =
-      let r = both {a = eqb (length codes) (kept .codes) && eqb (length scales) (kept .scales) && eqb (length norms) (kept .norms)} {b = roomOk (rowsOf m) (dimensionsOf m) (length codes) (length scales) (length norms)} (rw e at h) .1 in
+      let r = both {a = eqb (length codes) (kept .codes) && eqb (length scales) (kept .scales) && eqb (length norms) (kept .norms)} {b = residentRoomOk (rowsOf m) (dimensionsOf m) (length codes) (length scales) (length norms)} (rw e at h) .1 in
       let s = both {a = leb (rowsOf m * dimensionsOf m) (length codes) && leb (rowsOf m) (length scales)} {b = leb (rowsOf m) (length norms)} r in
       let t = both {a = leb (rowsOf m * dimensionsOf m) (length codes)} {b = leb (rowsOf m) (length scales)} (s .0) in
       (leb-true (rowsOf m * dimensionsOf m) (length codes) (t .0), leb-true (rowsOf m) (length scales) (t .1), leb-true (rowsOf m) (length norms) (s .1))

@@ -1,3 +1,4 @@
+-- Between functions: what they promise one another. No contract of an entry and no theorem rests on this file.
 -- The rows that a call sees: those of a cache, or resident ones.
 use mathlib.Core.Bool.{cond}
 use mathlib.Core.List.{List}

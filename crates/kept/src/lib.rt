@@ -5,7 +5,7 @@ ghost use lib.ListN.{length};
 ghost use lib.Dec.{leb};
 ghost use Rattle.rank.specs.Sort.{Ascending};
 ghost use Rattle.quantization.specs.Encoder.{Levels};
-ghost use Rattle.format.specs.Layout.{Placed};
+ghost use Rattle.format.specs.Layout.{LaidOut};
 ghost use Rattle.entries.specs.Plan.{rowsOk};
 ghost use Rattle.segment.specs.Record.{startsOf};
 ghost use Rattle.search_spec.specs.Lent.{given, everyone};
@@ -38,12 +38,12 @@ pub fn length_holds(
     scales: &[f64],
     norms: &[i64],
 ) -> bool
-    requires { ⌜ Placed (now m) layout ⌝ }
+    requires { ⌜ LaidOut (now m) layout ⌝ }
     ensures { λ r. ⌜ r ≡ seen kept (now (m .entry)) (now (cache .entry)) (now (codes .entry)) (now (scales .entry)) (now (norms .entry)) .lengthOk ⌝ }
 {
     let head = kept.head;
     if kept.resident {
-        let built = resident::State {
+        let built = resident::ResidentState {
             head: head,
             codes: kept.codes,
             scales: kept.scales,
@@ -58,7 +58,7 @@ pub fn length_holds(
             norms.len(),
         );
     }
-    let opened = quantized_cache::State {
+    let opened = quantized_cache::CacheState {
         head: head,
         cache: kept.cache,
     };
@@ -85,9 +85,11 @@ pub fn find(
     ks: &mut [u64],
     rs: &mut [u64],
 ) -> Shortlisted
-    requires { ⌜ Placed (now m) layout × (rowsOk (now m) ≡ true) × (now starts ≡ startsOf (now m)) × (queryOk (now m) (now query) ≡ true) ⌝ }
+    requires { ⌜ LaidOut (now m) layout × (rowsOk (now m) ≡ true) × (now starts ≡ startsOf (now m))
+        × (queryOk (now m) (now query) ≡ true) ⌝ }
     requires { ⌜ Levels levels
-        × (seen kept (now m) (now cache) (now codes) (now scales) (now norms) .lengthOk ≡ true) × Ascending leb (now sorted) × (length (now ks) ≡ length (now rs)) ⌝ }
+        × (seen kept (now m) (now cache) (now codes) (now scales) (now norms) .lengthOk ≡ true) × Ascending leb (now sorted)
+        × (length (now ks) ≡ length (now rs)) ⌝ }
     ensures { λ r. ⌜ ShortlistIs agree k levels (now (m .entry)) (now (segments .entry)) (now (query .entry)) (isEligible (given all (now (sorted .entry))) everyone (now (m .entry)))
         (seen kept (now (m .entry)) (now (cache .entry)) (now (codes .entry)) (now (scales .entry)) (now (norms .entry)) .at)
         (encoded (atLevels levels) (now (query .entry))) (length (now (ks .entry))) r (now (ks .exit)) (now (rs .exit)) ⌝ }

@@ -12,12 +12,12 @@ use Rattle.config.specs.declared.Refusal.{Refusal}
 use Rattle.config.proofs.Refusals.{then-rest, then-first, is-other}
 use Rattle.format.specs.Fields.{storedCrc}
 use Rattle.format.specs.Head.{opensOk, headNumber}
-use Rattle.geometry.specs.Sizing.{defaultOptions}
+use Rattle.cache_format.specs.Sizing.{defaultOptions}
 use Rattle.entries.specs.Plan.{planNumber}
 use Rattle.manifest.specs.Check.{manifestNumber, checkedBy, checked}
 use Rattle.segment.specs.Check.{libraryRefusal, checkedLibrary}
 use Rattle.quantized_cache.specs.Size.{sizeNumber}
-use Rattle.quantized_cache.specs.Open.{openNumber, openRefusal, stateOf, zeroState, openedBy, opened}
+use Rattle.quantized_cache.specs.Open.{openNumber, openRefusal, stateOf, zeroCacheState, openedBy, opened}
 use Rattle.quantized_cache.specs.declared.Opened.{Opened}
 use Rattle.listing_text.specs.Listing.{mostPlaces}
 use Rattle.listing.specs.Output.{admitted}
@@ -47,14 +47,14 @@ module _ (m s cache platform root : List ℕ) (crc : ℕ) (own : 4 ≤ length m 
   unfolding admitted openedBy checkedBy libraryRefusal openRefusal openNumber sizeNumber
   own-is = rw number-is
 
-  refused-is : (r : Refusal) → (r .number ≡ 0 → ⊥) → record { refusal = r; state = zeroState } ≡ openedBy m cache r
+  refused-is : (r : Refusal) → (r .number ≡ 0 → ⊥) → record { refusal = r; state = zeroCacheState } ≡ openedBy m cache r
   unfolding openedBy
-  refused-is r h = rw (is-other r (stateOf m cache) zeroState h)
+  refused-is r h = rw (is-other r (stateOf m cache) zeroCacheState h)
 
-  pub refused-first : (first .number ≡ 0 → ⊥) → record { refusal = first; state = zeroState } ≡ admitted m s cache platform root
+  pub refused-first : (first .number ≡ 0 → ⊥) → record { refusal = first; state = zeroCacheState } ≡ admitted m s cache platform root
   refused-first h = refused-is first h ∙ ap (openedBy m cache) (sym (then-first first (thenRefusal second (third .refusal)) h)) ∙ own-is
 
-  pub refused-second : first .number ≡ 0 → (second .number ≡ 0 → ⊥) → record { refusal = second; state = zeroState } ≡ admitted m s cache platform root
+  pub refused-second : first .number ≡ 0 → (second .number ≡ 0 → ⊥) → record { refusal = second; state = zeroCacheState } ≡ admitted m s cache platform root
   refused-second e h =
       refused-is second h
       ∙ ap (openedBy m cache) (sym (then-rest first (thenRefusal second (third .refusal)) e ∙ then-first second (third .refusal) h)) ∙ own-is

@@ -8,7 +8,7 @@ use native.Mathlib.Omega.{arith}
 use lib.Ieee.{Float}
 use lib.ListN.{length, length-replicate}
 use borrow.Author.Tests.{le-leb}
-use Rattle.float.specs.Values.{zero}
+use Rattle.float.specs.Values.{plusZero}
 use Rattle.config.specs.Refusal.{refusedOr, unlessRefused}
 use Rattle.format.specs.declared.Head.{Head}
 use Rattle.search_spec.specs.Lent.{Rows, Answers, Work, callOf, every}
@@ -48,7 +48,7 @@ room-is a w z = rw (z .ids, z .distances, z .rows, z .starts, z .lengths, z .key
 
 pub lent-room : roomOf lentAnswers lentWork ≡ full
 unfolding lentAnswers lentWork
-lent-room = rw (length-replicate {A = ℕ} mostPlaces 0, length-replicate mostPlaces zero)
+lent-room = rw (length-replicate {A = ℕ} mostPlaces 0, length-replicate mostPlaces plusZero)
 
 pub full-ok : (rows k limit : ℕ) → rows ≤ mostPlaces → roomOk rows k limit 0 full ≡ true
 full-ok rows k limit h = rw (le-leb (min k rows) mostPlaces (omega arith), le-leb (min limit rows) mostPlaces (omega arith))

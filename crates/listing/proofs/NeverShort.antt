@@ -16,7 +16,7 @@ use Rattle.config.specs.declared.Refusal.{Refusal}
 use Rattle.quantization.specs.View.{validRow}
 use Rattle.quantization.specs.Encoder.{baseLevels}
 use Rattle.row.specs.Distance.{approximate}
-use Rattle.row.specs.Answer.{measured, answer as rowAnswerOf, rowAnswer, refusalOf as rowRefusalOf}
+use Rattle.row.specs.Answer.{measured, answer as rowAnswerOf, rowAnswer, listRefusal as rowRefusalOf}
 use Rattle.format.specs.Order.{orElse, firstBad, firstRefusal}
 use Rattle.format.specs.Fields.{modelLength, dimensionsOf, segmentsOf, rowsOf, metricAt, storedCrc}
 use Rattle.format.specs.Head.{opensOk, kindOk, identityOk, countsOk, headNumber}
@@ -27,11 +27,11 @@ use Rattle.entries.specs.Plan.{rowsOk, crcOk, planNumber, badEntry}
 use Rattle.manifest.specs.Tiling.{tiled, inSegment}
 use Rattle.manifest.specs.Check.{manifestNumber, checkedBy}
 use Rattle.segment.specs.Record.{startOf, recordOk}
-use Rattle.segment.specs.Check.{badRecord, segmentCrcOk, rowsRefusal as segmentRows, segmentRefusal, inOrder, segmentsRefusal, libraryRefusal}
-use Rattle.geometry.specs.Cache.{identity, cacheVersion, rowLength}
-use Rattle.geometry.specs.Sizing.{defaultOptions, placeOk, optionsOk, codesOk, sizeOk, boundsNumber, limitsNumber, sizingNumber}
-use Rattle.geometry.specs.Open.{headOk, sameIdentity, openNumber as cacheHeadNumber}
-use Rattle.geometry.specs.declared.Options.{Options}
+use Rattle.segment.specs.Check.{badRecord, segmentCrcOk, segmentRecordsRefusal as segmentRows, segmentRefusal, inOrder, segmentsRefusal, libraryRefusal}
+use Rattle.cache_format.specs.Cache.{identity, cacheVersion, rowLength}
+use Rattle.cache_format.specs.Sizing.{defaultOptions, placeOk, optionsOk, codesOk, sizeOk, boundsNumber, limitsNumber, sizingNumber}
+use Rattle.cache_format.specs.Open.{cacheHeadOk, sameIdentity, cacheHeadNumber}
+use Rattle.cache_format.specs.declared.Options.{Options}
 use Rattle.quantized_cache.specs.Size.{sizeOf, sizingOf, sizeNumber}
 use Rattle.quantized_cache.specs.Open.{badRow, contentRefusal, openNumber, openRefusal, openedBy}
 use Rattle.search_spec.specs.Lent.{Rows, Call}
@@ -44,8 +44,8 @@ use Rattle.listing_text.specs.Listing.{mostPlaces}
 use Rattle.listing_input.specs.Files.{Files, maxFileBytes, inputOf}
 use Rattle.listing_input.specs.declared.Input.the-variants.{Whole}
 use Rattle.listing_input.proofs.Whole.{whole}
-use Rattle.listing_input.specs.Parts.{queryOf, kOf, limitOf, platformOf, rootOf}
-use Rattle.listing.specs.Output.{admitted, callOn, admission, found, refusalOf, NeverShort}
+use Rattle.listing_input.specs.Parts.{queryOf, kOf, limitOf, platformOf, rootPart}
+use Rattle.listing.specs.Output.{admitted, callOn, admission, found, listRefusal, NeverShort}
 use Rattle.listing.proofs.Most.{rows-most}
 use Rattle.listing.proofs.Lent.{full, full-ok, lent-room}
 
@@ -130,7 +130,7 @@ open-shown m expected cache platform root o h =
     then-shown (refused (openNumber m expected mostPlaces cache platform root o) 0) content
     (or-other (sizeNumber m expected mostPlaces platform root o) (cacheHeadNumber cacheVersion size i cache)
     (or-other (manifestNumber m expected mostPlaces) (sizingOf m platform root o) (manifest-other m expected h) (sizing-other m platform root o))
-    (unless-other (headOk cacheVersion size cache) _ _ refl refl (unless-other (sameIdentity i cache) _ _ refl refl none-other)))
+    (unless-other (cacheHeadOk cacheVersion size cache) _ _ refl refl (unless-other (sameIdentity i cache) _ _ refl refl none-other)))
     (unless-shown (eqb bad (rowsOf m)) _ 14 bad refl refl (unless-shown (endsInCrc cache) none 15 0 refl refl none-other))
 
 -- ---- the search's
@@ -186,9 +186,9 @@ admission-shown f h =
     let s = f .segments .bytes in
     let crc = storedCrc m in
     let place = f .place .bytes in
-    let opening = openRefusal m crc mostPlaces (f .cache .bytes) (platformOf place) (rootOf place) defaultOptions in
+    let opening = openRefusal m crc mostPlaces (f .cache .bytes) (platformOf place) (rootPart place) defaultOptions in
     then-shown (refused (manifestNumber m crc mostPlaces) 0) (thenRefusal (libraryRefusal m crc mostPlaces s) opening) (manifest-other m crc h)
-    (then-shown (libraryRefusal m crc mostPlaces s) opening (library-shown m crc s h) (open-shown m crc (f .cache .bytes) (platformOf place) (rootOf place) defaultOptions h))
+    (then-shown (libraryRefusal m crc mostPlaces s) opening (library-shown m crc s h) (open-shown m crc (f .cache .bytes) (platformOf place) (rootPart place) defaultOptions h))
 
 found-shown : (f : Files) → length (f .manifest .bytes) ≤ maxFileBytes → Shown (found f .refusal)
 unfolding found callOn searched outcomeBy
@@ -203,8 +203,8 @@ found-shown f h =
     (rw lent-room (front-other (state .head) m query (kOf call) (limitOf call) h)) (late-shown rows c (candidateRows rows c))
 
 pub never-short : (f : Files) → NeverShort f
-unfolding refusalOf
+unfolding listRefusal
 never-short f =
-    let shown : inputOf f ≡ Whole → Shown (refusalOf f) =
+    let shown : inputOf f ≡ Whole → Shown (listRefusal f) =
     λ e. let l = whole f e .manifest .short in then-shown (admission f .refusal) (found f .refusal) (admission-shown f l) (found-shown f l) in
     record { no-11 = λ e. shown e .no-11; no-20 = λ e. shown e .no-20 }

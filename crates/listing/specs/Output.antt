@@ -6,11 +6,11 @@ use mathlib.Core.List.{List, [], map}
 use Prim.Native.Nat.{ℕ}
 use lib.Dec.{eqb}
 use lib.ListN.{replicate}
-use Rattle.float.specs.Values.{zero}
+use Rattle.float.specs.Values.{plusZero}
 use Rattle.config.specs.Refusal.{thenRefusal, unlessRefused}
 use Rattle.config.specs.declared.Refusal.{Refusal}
 use Rattle.format.specs.Fields.{storedCrc}
-use Rattle.geometry.specs.Sizing.{defaultOptions}
+use Rattle.cache_format.specs.Sizing.{defaultOptions}
 use Rattle.manifest.specs.Check.{checked}
 use Rattle.segment.specs.Check.{checkedLibrary}
 use Rattle.quantized_cache.specs.Open.{opened, openedBy}
@@ -22,7 +22,7 @@ use Rattle.search_spec.specs.declared.Report.{Report}
 use Rattle.search_spec.specs.Kept.{cached}
 use Rattle.listing_text.specs.Listing.{tooLong, badInput, refusalText, listing, lineOf, mostPlaces}
 use Rattle.listing_input.specs.Files.{Files, inputOf}
-use Rattle.listing_input.specs.Parts.{queryOf, kOf, limitOf, platformOf, rootOf}
+use Rattle.listing_input.specs.Parts.{queryOf, kOf, limitOf, platformOf, rootPart}
 use Rattle.listing_input.specs.declared.Input.{Input}
 use Rattle.listing_input.specs.declared.Input.the-variants.{TooLong, BadInput, Whole}
 
@@ -38,7 +38,7 @@ admitted m s cache platform root =
 unfoldable pub lentAnswers : Answers
 lentAnswers =
     let zeros : List ℕ = replicate mostPlaces 0 in
-    answersOf zeros (replicate mostPlaces zero) zeros zeros zeros
+    answersOf zeros (replicate mostPlaces plusZero) zeros zeros zeros
 
 unfoldable pub lentWork : Work
 lentWork = workOf (replicate mostPlaces 0) (replicate mostPlaces 0) []
@@ -51,20 +51,20 @@ callOn m s query call = callOf m s every (queryOf query) (kOf call) (limitOf cal
 unfoldable pub admission : Files → Opened
 admission f =
     let place = f .place .bytes in
-    admitted (f .manifest .bytes) (f .segments .bytes) (f .cache .bytes) (platformOf place) (rootOf place)
+    admitted (f .manifest .bytes) (f .segments .bytes) (f .cache .bytes) (platformOf place) (rootPart place)
 
 unfoldable pub found : Files → Outcome
 found f = cached (admission f .state) (f .cache .bytes) (callOn (f .manifest .bytes) (f .segments .bytes) (f .query .bytes) (f .call .bytes))
 
-unfoldable pub refusalOf : Files → Refusal
-refusalOf f = thenRefusal (admission f .refusal) (found f .refusal)
+unfoldable pub listRefusal : Files → Refusal
+listRefusal f = thenRefusal (admission f .refusal) (found f .refusal)
 
 -- "A refusal prints `refused N at P`", else report and places
 unfoldable pub answerText : Refusal → Report → List Place → List ℕ
 answerText refusal report list = unlessRefused refusal (listing report (map lineOf list)) (refusalText refusal)
 
-unfoldable pub answer : Files → List ℕ
-answer f = answerText (refusalOf f) (found f .report) (found f .list)
+unfoldable pub answerText : Files → List ℕ
+answerText f = answerText (listRefusal f) (found f .report) (found f .list)
 
 -- "`too long` alone", "`bad input` alone", or what the whole files give
 abbrev pub textOf : Input → List ℕ → List ℕ
@@ -73,9 +73,9 @@ textOf BadInput whole = badInput
 textOf Whole whole = whole
 
 unfoldable pub output : Files → List ℕ
-output f = textOf (inputOf f) (answer f)
+output f = textOf (inputOf f) (answerText f)
 
 -- readings R37: "slices are sized so that 11 and 20 never show"
 pub record NeverShort (f : Files) : Type 0 where
-  pub no-11 : inputOf f ≡ Whole → eqb (refusalOf f .number) 11 ≡ false
-  pub no-20 : inputOf f ≡ Whole → eqb (refusalOf f .number) 20 ≡ false
+  pub no-11 : inputOf f ≡ Whole → eqb (listRefusal f .number) 11 ≡ false
+  pub no-20 : inputOf f ≡ Whole → eqb (listRefusal f .number) 20 ≡ false

@@ -5,22 +5,22 @@ ghost use lib.ListN.{length};
 ghost use Rattle.io.specs.Counts.{Counts};
 ghost use Rattle.text.specs.Put.{Put};
 ghost use Rattle.format.specs.Fields.{storedCrc};
-ghost use Rattle.quantized_cache.specs.Open.{zeroState};
+ghost use Rattle.quantized_cache.specs.Open.{zeroCacheState};
 ghost use Rattle.search_spec.specs.Lent.{callOf, every};
 ghost use Rattle.search_spec.specs.Kept.{cached};
 ghost use Rattle.listing_text.specs.Listing.{mostPlaces, listingBytes};
 ghost use Rattle.listing_input.specs.Files.{maxFileBytes, filesOf};
 ghost use Rattle.listing_input.specs.declared.There.{There};
 ghost use Rattle.listing_input.specs.Parts.{newlineAt};
-ghost use Rattle.listing.specs.Output.{admitted, lentAnswers, lentWork, callOn, answerText, answer as answerOf, output};
+ghost use Rattle.listing.specs.Output.{admitted, lentAnswers, lentWork, callOn, answerText, answerText as answerOf, output};
+use cache_format::Options;
 use config::Refusal;
-use geometry::Options;
 use listing_input::Input;
 use listing_input::There;
 use listing_text::LISTING_BYTES;
 use listing_text::MOST_PLACES;
+use quantized_cache::CacheState;
 use quantized_cache::Opened;
-use quantized_cache::State;
 
 // The f32s of a QUERY of 65,536 bytes.
 const MOST_VALUES: usize = 16_384;
@@ -62,9 +62,9 @@ fn own_crc(m: &[u8]) -> u32
 
 // A refusal, and no state.
 fn refused(refusal: Refusal) -> Opened
-    ensures { λ r. ⌜ r ≡ record { refusal = refusal; state = zeroState } ⌝ }
+    ensures { λ r. ⌜ r ≡ record { refusal = refusal; state = zeroCacheState } ⌝ }
 {
-    let state = State {
+    let state = CacheState {
         head: format::zero_head(),
         cache: 0,
     };
@@ -103,7 +103,7 @@ fn admit(manifest: &[u8], segments: &[u8], cache: &[u8], platform: &[u8], root: 
 
 // The search of all ids, and what is printed of it.
 fn search(
-    state: State,
+    state: CacheState,
     manifest: &[u8],
     segments: &[u8],
     cache: &[u8],
@@ -150,7 +150,7 @@ fn search(
 
 // The same with QUERY and CALL as they are read.
 fn find(
-    state: State,
+    state: CacheState,
     manifest: &[u8],
     segments: &[u8],
     cache: &[u8],
@@ -158,7 +158,8 @@ fn find(
     call: &[u8],
     out: &mut [u8],
 ) -> usize
-    requires { ⌜ (length (now manifest) ≤ maxFileBytes) × (length (now query) ≤ maxFileBytes) × (length (now call) ≡ 8) × (listingBytes ≤ length (now out)) ⌝ }
+    requires { ⌜ (length (now manifest) ≤ maxFileBytes) × (length (now query) ≤ maxFileBytes) × (length (now call) ≡ 8)
+        × (listingBytes ≤ length (now out)) ⌝ }
     ensures { λ r. ⌜ (let o = cached state (now (cache .entry)) (callOn (now (manifest .entry)) (now (segments .entry)) (now (query .entry)) (now (call .entry))) in
         Put (now (out .entry)) (now (out .exit)) 0 (answerText (o .refusal) (o .report) (o .list)) r) ⌝ }
     ensures { λ r. ⌜ Counts r (now (out .exit)) ⌝ }
@@ -190,7 +191,8 @@ fn answer(
     place: &[u8],
     out: &mut [u8],
 ) -> usize
-    requires { ⌜ (length (now manifest) ≤ maxFileBytes) × (length (now query) ≤ maxFileBytes) × (length (now call) ≡ 8) × (newlineAt (now place) < length (now place)) × (listingBytes ≤ length (now out)) ⌝ }
+    requires { ⌜ (length (now manifest) ≤ maxFileBytes) × (length (now query) ≤ maxFileBytes) × (length (now call) ≡ 8)
+        × (newlineAt (now place) < length (now place)) × (listingBytes ≤ length (now out)) ⌝ }
     ensures { λ r. ⌜ ((there : There) → Put (now (out .entry)) (now (out .exit)) 0 (answerOf (filesOf there (now (manifest .entry)) (now (segments .entry)) (now (cache .entry)) (now (query .entry)) (now (call .entry)) (now (place .entry)))) r) ⌝ }
     ensures { λ r. ⌜ Counts r (now (out .exit)) ⌝ }
 {

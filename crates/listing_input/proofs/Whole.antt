@@ -8,8 +8,8 @@ use lib.ListN.{length, getD}
 use borrow.Author.Tests.{ltb-false, eqb-true, eqb-false, not-false}
 use Rattle.le.proofs.Chain.{past}
 use Rattle.format.proofs.First.{first-within}
-use Rattle.listing_input.specs.Parts.{newline, newlineAt}
-use Rattle.listing_input.specs.Files.{File, Files, maxFileBytes, some, missing, overlong, tooLong, badInput, inputOf}
+use Rattle.listing_input.specs.Parts.{newlineByte, newlineAt}
+use Rattle.listing_input.specs.Files.{File, Files, maxFileBytes, some, missing, overlong, isTooLong, isBadInput, inputOf}
 use Rattle.listing_input.specs.declared.Input.the-variants.{Whole}
 
 pub record WholeFile (file : File) : Type 0 where
@@ -56,16 +56,16 @@ whole-file file m o =
     record { there = t; short = ltb-false maxFileBytes (length (file .bytes)) (rw t at o) }
 
 pub whole : (f : Files) → inputOf f ≡ Whole → WholeFiles f
-unfolding inputOf tooLong badInput newlineAt
+unfolding inputOf isTooLong isBadInput newlineAt
 whole f e =
-    let l = past (tooLong f) (λ z. let n : _≡_ {A = ℕ} 0 1 = cc in omega arith) e in
-    let b = past (badInput f) (λ z. let n : _≡_ {A = ℕ} 0 1 = cc in omega arith) (l .1) .0 in
+    let l = past (isTooLong f) (λ z. let n : _≡_ {A = ℕ} 0 1 = cc in omega arith) e in
+    let b = past (isBadInput f) (λ z. let n : _≡_ {A = ℕ} 0 1 = cc in omega arith) (l .1) .0 in
     let n = neither _ (eqb (newlineAt (f .place .bytes)) (length (f .place .bytes))) b in
     let c = neither _ (not (eqb (length (f .call .bytes)) 8)) (n .0) in
     let q = neither (some missing f) (not (eqb (length (f .query .bytes) % 4) 0)) (c .0) in
     let m = none missing f (q .0) in
     let o = none overlong f (l .0) in
-    let w = first-within (λ i. not (eqb (getD (f .place .bytes) i 0) newline)) (length (f .place .bytes)) in
+    let w = first-within (λ i. not (eqb (getD (f .place .bytes) i 0) newlineByte)) (length (f .place .bytes)) in
     let d = eqb-false (newlineAt (f .place .bytes)) (length (f .place .bytes)) (n .1) in
     record {
       manifest = whole-file (f .manifest) (m .manifest) (o .manifest);

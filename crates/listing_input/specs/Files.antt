@@ -49,15 +49,15 @@ overlong file = file .there && ltb maxFileBytes (length (file .bytes))
 abbrev pub missing : File → Bool
 missing file = not (file .there)
 
-unfoldable pub tooLong : Files → Bool
-tooLong f = some overlong f
+unfoldable pub isTooLong : Files → Bool
+isTooLong f = some overlong f
 
-unfoldable pub badInput : Files → Bool
-badInput f =
+unfoldable pub isBadInput : Files → Bool
+isBadInput f =
     let place = f .place .bytes in
     some missing f || not (eqb (length (f .query .bytes) % 4) 0) || not (eqb (length (f .call .bytes)) 8)
     || eqb (newlineAt place) (length place)
 
 -- what is printed alone, or that the files are whole
 unfoldable pub inputOf : Files → Input
-inputOf f = cond (tooLong f) TooLong (cond (badInput f) BadInput Whole)
+inputOf f = cond (isTooLong f) TooLong (cond (isBadInput f) BadInput Whole)

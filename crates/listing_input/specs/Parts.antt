@@ -20,15 +20,15 @@ unfoldable pub limitOf : List ℕ → ℕ
 limitOf call = leAt 4 call 4
 
 -- where the first newline stands, or the length
-abbrev pub newline : ℕ
-newline = 10
+abbrev pub newlineByte : ℕ
+newlineByte = 10
 
 unfoldable pub newlineAt : List ℕ → ℕ
-newlineAt place = firstBad (λ i. not (eqb (getD place i 0) newline)) (length place)
+newlineAt place = firstBad (λ i. not (eqb (getD place i 0) newlineByte)) (length place)
 
 -- "the root is all after the first newline, later newlines with it; no trimming; both parts may be empty" (readings R37)
 unfoldable pub platformOf : List ℕ → List ℕ
 platformOf place = take (newlineAt place) place
 
-unfoldable pub rootOf : List ℕ → List ℕ
-rootOf place = drop (newlineAt place + 1) place
+unfoldable pub rootPart : List ℕ → List ℕ
+rootPart place = drop (newlineAt place + 1) place

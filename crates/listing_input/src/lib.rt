@@ -5,7 +5,7 @@ ghost use Prim.Native.Nat.{ℕ, _/_, _≤_};
 ghost use lib.ListN.{length};
 ghost use lib.Ieee.{binary32, ofBits};
 ghost use Rattle.le.specs.Le.{paste};
-ghost use Rattle.listing_input.specs.Files.{filesOf, overlong as tooLarge, tooLong, badInput, inputOf};
+ghost use Rattle.listing_input.specs.Files.{filesOf, overlong as tooLarge, isTooLong, isBadInput, inputOf};
 ghost use Rattle.listing_input.specs.Parts.{queryOf, newlineAt};
 
 pub const MAX_FILE_BYTES: usize = 65536;
@@ -57,7 +57,7 @@ fn too_long(
     call: &[u8],
     place: &[u8],
 ) -> bool
-    ensures { λ r. ⌜ r ≡ tooLong (filesOf there (now (manifest .entry)) (now (segments .entry)) (now (cache .entry)) (now (query .entry)) (now (call .entry)) (now (place .entry))) ⌝ }
+    ensures { λ r. ⌜ r ≡ isTooLong (filesOf there (now (manifest .entry)) (now (segments .entry)) (now (cache .entry)) (now (query .entry)) (now (call .entry)) (now (place .entry))) ⌝ }
 {
     overlong(there.manifest, manifest)
         | overlong(there.segments, segments)
@@ -69,7 +69,7 @@ fn too_long(
 
 // What is wrong with the files besides their lengths; what the first three hold does not matter.
 fn bad_input(there: There, query: &[u8], call: &[u8], place: &[u8]) -> bool
-    ensures { λ r. ⌜ ((manifest segments cache : List ℕ) → r ≡ badInput (filesOf there manifest segments cache (now (query .entry)) (now (call .entry)) (now (place .entry)))) ⌝ }
+    ensures { λ r. ⌜ ((manifest segments cache : List ℕ) → r ≡ isBadInput (filesOf there manifest segments cache (now (query .entry)) (now (call .entry)) (now (place .entry)))) ⌝ }
 {
     !there.manifest
         | !there.segments

@@ -2,7 +2,7 @@
 use mathlib.Core.Path.{_≡_, refl, sym, ap, _∙_}
 use mathlib.Core.Logic.{inl, inr, ⊎-elim}
 use mathlib.Core.Bool.{Bool, true, false, cond, true≢false}
-use mathlib.Core.List.{List, [], _∷_, map}
+use mathlib.Core.List.{List, [], _∷_, _++_, map}
 use Prim.Native.Nat.{ℕ, zero, suc, _+_, _-_, _≤_, _<_}
 use native.Mathlib.Omega.{arith}
 use lib.Dec.{leb, eqb}
@@ -10,20 +10,24 @@ use lib.ListN.{length, take, drop, getD, length-map, List·getD-map, length-drop
 use lib.Seq.{drop-drop, take-length}
 use borrow.Author.Tests.{le-leb, lt-leb, ne-eqb, leb-true, eqb-true, eqb-false, eq-eqb}
 use Rattle.le.proofs.Chain.{by}
-use Rattle.rank.specs.Sort.{_∈_, Pairwise}
+use Rattle.rank.specs.Sort.{_∈_, Pairwise, TotalOrder, Ascending, insert, sort}
 use Rattle.rank.specs.Limit.{byKey}
 use Rattle.rank.specs.Rows.{passing}
-use Rattle.rank.proofs.Sort.{ascending-sort, to-sort}
+use Rattle.rank.proofs.Sort.{ascending-sort, to-sort, insert-first}
 use Rattle.rank.proofs.Rows.{passing-complete}
 use Rattle.rank.proofs.ByKey.{order, key-rises}
 use Rattle.rank.proofs.Members.{take-map, mem-getD}
 use Rattle.format.specs.Fields.{rowsOf, segmentAt, offsetAt}
 use Rattle.entries.specs.Plan.{rowsOk}
-use Rattle.manifest.specs.Tiling.{position, physical, keep, inSegment}
+use Rattle.manifest.specs.Tiling.{position, physical, inSegment}
 use Rattle.manifest.specs.Scratch.{key, keySegment, keyRow, run, Below, rowKeys}
 use Rattle.manifest.proofs.Keys.{segment-of, row-of, small, near, in-rows}
 
--- ---- what is kept of a list
+-- ---- what is kept of a list: the elements that pass
+abbrev pub keep : (ℕ → Bool) → List ℕ → List ℕ
+keep ok [] = []
+keep ok (r ∷ rs) = cond (ok r) (r ∷ keep ok rs) (keep ok rs)
+
 pub from-keep : (ok : ℕ → Bool) (z : ℕ) (l : List ℕ) → z ∈ keep ok l → (z ∈ l) × (ok z ≡ true)
 from-keep ok z [] h = absurd h
 from-keep ok z (x ∷ xs) h =
@@ -39,14 +43,46 @@ to-keep ok z (x ∷ xs) h e =
     (λ p. rw p (⊎-elim {C = z ∈ (x ∷ keep ok xs)} (λ (q : z ≡ x). inl q) (λ i. inr (to-keep ok z xs i e)) h))
     (λ p. rw p (⊎-elim {C = z ∈ keep ok xs} (λ (q : z ≡ x). absurd (true≢false (sym e ∙ rw q p))) (λ i. to-keep ok z xs i e) h))
 
+-- sorting goes through keeping
+module _ (le : ℕ → ℕ → Bool) (o : TotalOrder le) (ok : ℕ → Bool) where
+  keep-insert : (x : ℕ) (s : List ℕ) → Ascending le s → keep ok (insert le x s) ≡ cond (ok x) (insert le x (keep ok s)) (keep ok s)
+  unfolding insert
+  keep-insert x [] h = refl
+  keep-insert x (y ∷ ys) h =
+      by (le y x)
+      (λ e. rw (e, keep-insert x ys (h .1)) (by (ok x) (λ p. rw p (by (ok y) (λ q. rw (q, e)) (λ q. rw q))) (λ p. rw p)))
+      (λ e. let first : (z : ℕ) → z ∈ keep ok (y ∷ ys) → le x z ≡ true =
+      λ z i. ⊎-elim {C = le x z ≡ true} (λ (q : z ≡ y). rw q (o .total e)) (λ j. o .trans (o .total e) (h .0 z j)) (from-keep ok z (y ∷ ys) i .0) in
+      rw (e, insert-first le o x (keep ok (y ∷ ys)) first))
+
+  keep-sort : (xs : List ℕ) → keep ok (sort le xs) ≡ sort le (keep ok xs)
+  unfolding sort
+  keep-sort [] = refl
+  keep-sort (x ∷ xs) = rw (keep-insert x (sort le xs) (ascending-sort le o xs), keep-sort xs) (by (ok x) (λ e. rw e) (λ e. rw e))
+
+keep-last : (ok : ℕ → Bool) (l : List ℕ) (n : ℕ) → keep ok (l ++ n ∷ []) ≡ cond (ok n) (keep ok l ++ n ∷ []) (keep ok l)
+keep-last ok [] n = refl
+keep-last ok (x ∷ xs) n = rw (keep-last ok xs n) (by (ok x) (λ e. rw e (by (ok n) (λ f. rw f) (λ f. rw f))) (λ e. rw e))
+
+keep-passing : (ok : ℕ → Bool) (n : ℕ) → keep ok (passing (λ r. true) n) ≡ passing ok n
+unfolding passing
+keep-passing ok zero = refl
+keep-passing ok (suc n) = rw (keep-last ok (passing (λ r. true) n) n, keep-passing ok n)
+
+-- a segment's rows are those of all, by segment and offset, that lie there
+in-segment-is : (m : List ℕ) (n : ℕ) → inSegment m n ≡ keep (λ r. eqb (segmentAt m r) n) (physical m)
+unfolding inSegment physical
+in-segment-is m n =
+    let ok : ℕ → Bool = λ r. eqb (segmentAt m r) n in
+    sym (keep-sort (byKey (position m)) (order (position m)) ok (passing (λ r. true) (rowsOf m)) ∙ ap (sort (byKey (position m))) (keep-passing ok (rowsOf m)))
+
 -- each row is among all, and among those of its segment
 pub of-all : (m : List ℕ) (r : ℕ) → r < rowsOf m → r ∈ physical m
 unfolding physical
 of-all m r h = to-sort (byKey (position m)) r (passing (λ t. true) (rowsOf m)) (passing-complete (λ t. true) (rowsOf m) r h refl)
 
 pub of-segment : (m : List ℕ) (r : ℕ) → r < rowsOf m → r ∈ inSegment m (segmentAt m r)
-unfolding inSegment
-of-segment m r h = to-keep (λ t. eqb (segmentAt m t) (segmentAt m r)) r (physical m) (of-all m r h) (eq-eqb (segmentAt m r) (segmentAt m r) refl)
+of-segment m r h = rw (in-segment-is m (segmentAt m r)) (to-keep (λ t. eqb (segmentAt m t) (segmentAt m r)) r (physical m) (of-all m r h) (eq-eqb (segmentAt m r) (segmentAt m r) refl))
 
 pub keep-all : (ok : ℕ → Bool) (l : List ℕ) → ((z : ℕ) → z ∈ l → ok z ≡ true) → keep ok l ≡ l
 keep-all ok [] h = refl
@@ -152,8 +188,7 @@ module _ (m : List ℕ) where
     in-from n r i = in-rows m ok few r (from-keep (λ r. leb n (segmentAt m r)) r (physical m) i .0)
 
     pub in-segment : (n r : ℕ) → r ∈ inSegment m n → r < rowsOf m
-    unfolding inSegment
-    in-segment n r i = in-rows m ok few r (from-keep (λ r. eqb (segmentAt m r) n) r (physical m) i .0)
+    in-segment n r i = in-rows m ok few r (from-keep (λ r. eqb (segmentAt m r) n) r (physical m) (rw (in-segment-is m n) at i) .0)
 
     rows-back : (l : List ℕ) → ((r : ℕ) → r ∈ l → r < rowsOf m) → map keyRow (map (key m) l) ≡ l
     rows-back [] h = refl
@@ -175,7 +210,6 @@ module _ (m : List ℕ) where
         (r, below-of keys (physical m) r (in-rows m ok few))
 
     held-part : {keys : List ℕ} {i n c : ℕ} → Held keys i n → c ≡ run n (drop i keys) → Part keys i n c
-    unfolding inSegment
     held-part {keys} {i} {n} {c} h e =
         let l = from n in
         let t = run-part n l
@@ -185,7 +219,7 @@ module _ (m : List ℕ) where
         let f : c ≡ run n (map (key m) l) = e ∙ ap (run n) (h .so) in
         let here = keep-keep (λ r. eqb (segmentAt m r) n) (λ r. leb n (segmentAt m r)) (physical m) (λ z q. let w = eqb-true (segmentAt m z) n q in le-leb n (segmentAt m z) (omega (arith, w))) in
         let after = keep-keep (λ r. leb (n + 1) (segmentAt m r)) (λ r. leb n (segmentAt m r)) (physical m) (λ z q. let w = leb-true (n + 1) (segmentAt m z) q in le-leb n (segmentAt m z) (omega (arith, w))) in
-        let part : take c (drop i keys) ≡ map (key m) (inSegment m n) = rw (h .so, f, take-map (key m) (run n (map (key m) l)) l, t .0, here) in
+        let part : take c (drop i keys) ≡ map (key m) (inSegment m n) = rw (h .so, f, take-map (key m) (run n (map (key m) l)) l, t .0, here, in-segment-is m n) in
         let rows : map keyRow (take c (drop i keys)) ≡ inSegment m n = rw part (rows-back (inSegment m n) (in-segment n)) in
         record {
           within = rw e (run-within n (drop i keys));

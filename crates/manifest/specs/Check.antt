@@ -17,14 +17,14 @@ use Rattle.manifest.specs.declared.Checked.{Checked}
 
 -- the number of the first test that fails, or 0
 unfoldable pub manifestNumber : List ℕ → ℕ → ℕ → ℕ
-manifestNumber m expected room = orElse (planNumber m expected room) (unless (tiled m) 4 0)
+manifestNumber m expected scratch = orElse (planNumber m expected scratch) (unless (tiled m) 4 0)
 
 -- what is answered: a refusal and zeros, or the head (document 01: "A refusal returns its number and a place"; readings R23)
 unfoldable pub checkedBy : List ℕ → Refusal → Checked
 checkedBy m refusal = record { refusal = refusal; head = unlessRefused refusal (headAt m) zeroHead }
 
 abbrev pub checked : List ℕ → ℕ → ℕ → Checked
-checked m expected room = checkedBy m (refused (manifestNumber m expected room) 0)
+checked m expected scratch = checkedBy m (refused (manifestNumber m expected scratch) 0)
 
 -- the scratch t once the tiling is tested (document 01, The report: "tiling scratch: its 11"; readings R13: it stays on 1, 2, 3 and its own
 -- 11, else the whole slice ends zero); until it is cleared it holds the rows of an accepted manifest in order

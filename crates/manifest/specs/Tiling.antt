@@ -1,6 +1,6 @@
 -- The tiling (document 01, table: "4: rows do not tile their segments"; readings R13: "4 is: a segment's first row not at 0, a gap, two
 -- rows on one offset or overlapping, a segment without rows, or a last row that does not end at the length - 4").
-use mathlib.Core.Bool.{Bool, true, false, cond, _&&_}
+use mathlib.Core.Bool.{Bool, true, false, _&&_}
 use mathlib.Core.List.{List, [], _∷_}
 use Prim.Native.Nat.{ℕ, _+_, _*_, _^_}
 use lib.Dec.{eqb}
@@ -18,14 +18,9 @@ position m r = segmentAt m r * 2 ^ 32 + offsetAt m r
 unfoldable pub physical : List ℕ → List ℕ
 physical m = sort (byKey (position m)) (passing (λ r. true) (rowsOf m))
 
--- the elements that pass
-abbrev pub keep : (ℕ → Bool) → List ℕ → List ℕ
-keep ok [] = []
-keep ok (r ∷ rs) = cond (ok r) (r ∷ keep ok rs) (keep ok rs)
-
 -- the rows of segment n by offset
 unfoldable pub inSegment : List ℕ → ℕ → List ℕ
-inSegment m n = keep (λ r. eqb (segmentAt m r) n) (physical m)
+inSegment m n = sort (byKey (position m)) (passing (λ r. eqb (segmentAt m r) n) (rowsOf m))
 
 -- rows follow each other from `at` on, each where the one before it ends, and the segment ends 4 bytes, its CRC-32, after the last
 unfoldable pub follow : List ℕ → ℕ → ℕ → List ℕ → Bool

@@ -7,7 +7,7 @@ ghost use lib.ListN.{length, drop};
 ghost use Rattle.rank.specs.Rows.{passing};
 ghost use Rattle.format.specs.Fields.{rowsOf};
 ghost use Rattle.format.specs.Head.{headNumber};
-ghost use Rattle.format.specs.Layout.{Placed};
+ghost use Rattle.format.specs.Layout.{LaidOut};
 ghost use Rattle.entries.specs.Plan.{rowsOk};
 ghost use Rattle.manifest.specs.Tiling.{covers as covered, tiled};
 ghost use Rattle.manifest.specs.Scratch.{key, keyRow, rowKeys, ordered, run as runOf, Below};
@@ -31,7 +31,7 @@ fn wide(x: u32) -> u64
 // ---- The rows in order.
 
 fn key_of(m: &[u8], layout: Layout, row: usize) -> u64
-    requires { ⌜ Placed (now m) layout × (row < layout .rows) × (rowsOk (now m) ≡ true) ⌝ }
+    requires { ⌜ LaidOut (now m) layout × (row < layout .rows) × (rowsOk (now m) ≡ true) ⌝ }
     ensures { λ r. ⌜ r ≡ key (now (m .entry)) row ⌝ }
 {
     let e = entries::read_entry(m, layout, row);
@@ -45,7 +45,7 @@ pub fn key_row(key: u64) -> usize
 }
 
 fn fill(m: &[u8], layout: Layout, scratch: &mut [u64])
-    requires { ⌜ Placed (now m) layout × (layout .rows ≤ length (now scratch)) × (rowsOk (now m) ≡ true) ⌝ }
+    requires { ⌜ LaidOut (now m) layout × (layout .rows ≤ length (now scratch)) × (rowsOk (now m) ≡ true) ⌝ }
     ensures { λ r. ⌜ now (scratch .exit) ≡ map (key (now (m .entry))) (passing (λ r. true) (rowsOf (now (m .entry)))) ++ drop (rowsOf (now (m .entry))) (now (scratch .entry)) ⌝ }
 {
     let mut row = 0;
@@ -57,7 +57,7 @@ fn fill(m: &[u8], layout: Layout, scratch: &mut [u64])
 }
 
 fn order(m: &[u8], layout: Layout, scratch: &mut [u64])
-    requires { ⌜ Placed (now m) layout × (layout .rows ≤ length (now scratch)) × (rowsOk (now m) ≡ true) ⌝ }
+    requires { ⌜ LaidOut (now m) layout × (layout .rows ≤ length (now scratch)) × (rowsOk (now m) ≡ true) ⌝ }
     ensures { λ r. ⌜ now (scratch .exit) ≡ ordered (now (m .entry)) (now (scratch .entry)) ⌝ }
 {
     fill(m, layout, scratch);
@@ -83,7 +83,7 @@ pub fn run(keys: &[u64], n: usize) -> usize
 
 // Whether the rows of these keys follow each other through a segment of this length.
 fn covers(m: &[u8], layout: Layout, keys: &[u64], length: u64) -> bool
-    requires { ⌜ Placed (now m) layout × Below (layout .rows) (now keys) ⌝ }
+    requires { ⌜ LaidOut (now m) layout × Below (layout .rows) (now keys) ⌝ }
     ensures { λ r. ⌜ r ≡ covered (now (m .entry)) length (map keyRow (now (keys .entry))) ⌝ }
 {
     if keys.len() == 0 {
@@ -103,7 +103,7 @@ fn covers(m: &[u8], layout: Layout, keys: &[u64], length: u64) -> bool
 }
 
 fn tiles(m: &[u8], layout: Layout, keys: &[u64]) -> bool
-    requires { ⌜ Placed (now m) layout × (rowsOk (now m) ≡ true) × (now keys ≡ rowKeys (now m)) ⌝ }
+    requires { ⌜ LaidOut (now m) layout × (rowsOk (now m) ≡ true) × (now keys ≡ rowKeys (now m)) ⌝ }
     ensures { λ r. ⌜ r ≡ tiled (now (m .entry)) ⌝ }
 {
     let mut i = 0;
@@ -124,7 +124,8 @@ fn tiles(m: &[u8], layout: Layout, keys: &[u64]) -> bool
 
 // The number of the first test that fails, or 0, and then the scratch holds the rows in order.
 pub fn accept(m: &[u8], expected: u32, scratch: &mut [u64]) -> u32
-    ensures { λ r. ⌜ (r ≡ manifestNumber (now (m .entry)) expected (length (now (scratch .entry)))) × (now (scratch .exit) ≡ scratchHeld (now (m .entry)) expected (now (scratch .entry))) ⌝ }
+    ensures { λ r. ⌜ (r ≡ manifestNumber (now (m .entry)) expected (length (now (scratch .entry))))
+        × (now (scratch .exit) ≡ scratchHeld (now (m .entry)) expected (now (scratch .entry))) ⌝ }
 {
     let number = entries::plan(m, expected, scratch.len());
     if number != 0 {
@@ -158,7 +159,8 @@ pub fn answer(m: &[u8], refusal: Refusal) -> Checked
 }
 
 pub fn check(manifest: &[u8], expected_crc: u32, scratch: &mut [u64]) -> Checked
-    ensures { λ r. ⌜ (r ≡ checked (now (manifest .entry)) «expected_crc» (length (now (scratch .entry)))) × (now (scratch .exit) ≡ scratchAfter (now (manifest .entry)) «expected_crc» (now (scratch .entry))) ⌝ }
+    ensures { λ r. ⌜ (r ≡ checked (now (manifest .entry)) «expected_crc» (length (now (scratch .entry))))
+        × (now (scratch .exit) ≡ scratchAfter (now (manifest .entry)) «expected_crc» (now (scratch .entry))) ⌝ }
 {
     let number = accept(manifest, expected_crc, scratch);
     let refusal = Refusal {

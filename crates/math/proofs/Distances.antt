@@ -16,7 +16,7 @@ use lib.Ieee.Fits.{up-pos, neg-fits, cond-fits, sub-fits, mul-fits}
 use lib.Ieee.Scale.{finite}
 use lib.Ieee.Positive.{num}
 use Rattle.le.proofs.Chain.{by}
-use Rattle.float.specs.Values.{zero as nought, one, two}
+use Rattle.float.specs.Values.{plusZero, one, two}
 use Rattle.float.specs.Hold.{clamp}
 use Rattle.float.specs.Order.{negative}
 use Rattle.float.proofs.Within.{Within, two as power, half}
@@ -34,7 +34,7 @@ use Rattle.math.specs.Distance.{inverse, inverseNorm, original}
 use Rattle.math.proofs.Totals.{Coordinates, coordinates, dot-sum, l2-sum, square-sum}
 
 -- ---- the inverse of a root is finite
-inverse-zero : (s : Bool) (e : ℤ) → inverse (fin s zero e) ≡ nought
+inverse-zero : (s : Bool) (e : ℤ) → inverse (fin s zero e) ≡ plusZero
 unfolding inverse eq
 inverse-zero true e = rw (zero-mul (up e), zero-mul (down e))
 inverse-zero false e = rw (zero-mul (up e), zero-mul (down e))
@@ -42,7 +42,7 @@ inverse-zero false e = rw (zero-mul (up e), zero-mul (down e))
 inverse-of : (r : Float) → Within (half 536) r → Within (inverse r) (power 537)
 unfolding inverse
 inverse-of r h =
-    by (eq r nought) (λ e. rw e (record { fine = tt; bound = tt; order = lit≤ tt })) (λ e. rw e (div-under binary64 (power 537) (within-refl one tt) h tt))
+    by (eq r plusZero) (λ e. rw e (record { fine = tt; bound = tt; order = lit≤ tt })) (λ e. rw e (div-under binary64 (power 537) (within-refl one tt) h tt))
 
 inverse-root : (x r : Float) → Plus x → T (fits binary64 x) → IsRoot x r → Within (inverse r) (power 537)
 inverse-root nan r p f h = absurd p
@@ -59,7 +59,7 @@ inverse-norm-within n h v e c =
     inverse-root (dot v v) (sqrtOf (dot v v)) (s .plus) (s .bounded .fit) (sqrt-is (dot v v) (s .bounded .fit))
 
 -- ---- 1 - y, held in 0 .. 2, has no sign
-below-zero : (x : Float) → negative x ≡ true → (T (finite x) → 0 < num x) → lt x nought ≡ true
+below-zero : (x : Float) → negative x ≡ true → (T (finite x) → 0 < num x) → lt x plusZero ≡ true
 unfolding lt
 below-zero nan s p = absurd (false≢true s)
 below-zero (inf true) s p = refl
@@ -67,22 +67,22 @@ below-zero (inf false) s p = absurd (false≢true s)
 below-zero (fin true m e) s p = rw (zero-mul (down e)) (lt-ltb 0 (m * up e * 1 + 0) (omega (arith, p tt)))
 below-zero (fin false m e) s p = absurd (false≢true s)
 
-hold-plain : (y : Float) → T (fits binary64 y) → negative (clamp nought two (sub binary64 one y)) ≡ false
+hold-plain : (y : Float) → T (fits binary64 y) → negative (clamp plusZero two (sub binary64 one y)) ≡ false
 unfolding clamp
 hold-plain y f =
     let x = sub binary64 one y in
-    by (lt x nought) (λ e. rw e)
+    by (lt x plusZero) (λ e. rw e)
     (λ e. rw e (by (lt two x) (λ d. rw d)
     (λ d. rw d (by (negative x) (λ n. absurd (true≢false (sym (below-zero x n (sub-some binary64 one y refl (unfold fits in tt) f n)) ∙ e))) (λ n. n)))))
 
-hold-fits : (x : Float) → T (fits binary64 x) → T (fits binary64 (clamp nought two x))
+hold-fits : (x : Float) → T (fits binary64 x) → T (fits binary64 (clamp plusZero two x))
 unfolding clamp
-hold-fits x f = cond-fits binary64 (lt x nought) nought (cond (lt two x) two x) (unfold fits in tt) (cond-fits binary64 (lt two x) two x (unfold fits in tt) f)
+hold-fits x f = cond-fits binary64 (lt x plusZero) plusZero (cond (lt two x) two x) (unfold fits in tt) (cond-fits binary64 (lt two x) two x (unfold fits in tt) f)
 
 -- ---- the distances
 abbrev pub Range : Metric → Float → Type 0
-Range SquaredL2 x = T (le nought x) × (negative x ≡ false)
-Range Cosine x = In nought two x × (negative x ≡ false)
+Range SquaredL2 x = T (le plusZero x) × (negative x ≡ false)
+Range Cosine x = In plusZero two x × (negative x ≡ false)
 Range InnerProduct x = Unit {0}
 
 pub record Measured (metric : Metric) (x : Float) : Type 0 where

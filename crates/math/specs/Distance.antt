@@ -5,7 +5,7 @@ use mathlib.Core.List.{List}
 use Prim.Native.Nat.{ℕ, _+_, _*_, _≤_}
 use lib.ListN.{length}
 use lib.Ieee.{Float, binary64, neg, sub, mul, div, eq}
-use Rattle.float.specs.Values.{zero, one, two}
+use Rattle.float.specs.Values.{plusZero, one, two}
 use Rattle.float.specs.Hold.{clamp}
 use Rattle.root.specs.SquareRoot.{sqrtOf}
 use Rattle.config.specs.Vector.{finites, floatsAt}
@@ -21,7 +21,7 @@ pub record Readable (n : ℕ) (s : List ℕ) (at : ℕ) : Type 0 where
 
 -- Document 01, The arithmetic, Original: "An inverse norm is 1 / root(sum of squares), or 0 when that root is 0."
 unfoldable pub inverse : Float → Float
-inverse r = cond (eq r zero) zero (div binary64 one r)
+inverse r = cond (eq r plusZero) plusZero (div binary64 one r)
 
 abbrev pub inverseNorm : List Float → Float
 inverseNorm v = inverse (sqrtOf (dot v v))
@@ -30,7 +30,7 @@ inverseNorm v = inverse (sqrtOf (dot v v))
 -- arithmetic, Original: "Cosine is 1 - (dot × inverse norm of query) × inverse norm of record, held in 0..2."
 unfoldable pub finished : Metric → Float → Float → Float → Float
 finished SquaredL2 sum qInverse inverse = sum
-finished Cosine sum qInverse inverse = clamp zero two (sub binary64 one (mul binary64 (mul binary64 sum qInverse) inverse))
+finished Cosine sum qInverse inverse = clamp plusZero two (sub binary64 one (mul binary64 (mul binary64 sum qInverse) inverse))
 finished InnerProduct sum qInverse inverse = neg sum
 
 -- the original distance of a query q and a record's coordinates v

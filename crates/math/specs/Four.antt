@@ -5,7 +5,7 @@ use mathlib.Core.List.{List, [], _∷_}
 use lib.Dec.{leb}
 use lib.ListN.{length}
 use lib.Ieee.{Float}
-use Rattle.float.specs.Values.{zero, quad}
+use Rattle.float.specs.Values.{plusZero, quad}
 use Rattle.config.specs.Limits.{maxDimensions}
 use Rattle.config.specs.Refusal.{none, refused}
 use Rattle.config.specs.Vector.{validVector}
@@ -26,4 +26,4 @@ validFive metric q a b c d =
 -- Document 01, The arithmetic: "It gives 16 and four +0 unless" they do; place 0 (What each place turns away)
 unfoldable pub distanceFour : Metric → List Float → List Float → List Float → List Float → List Float → Four
 distanceFour metric q a b c d =
-    cond (validFive metric q a b c d) (record { refusal = none; distances = originalFour metric q a b c d }) (record { refusal = refused 16 0; distances = quad (λ k. zero) })
+    cond (validFive metric q a b c d) (record { refusal = none; distances = originalFour metric q a b c d }) (record { refusal = refused 16 0; distances = quad (λ k. plusZero) })

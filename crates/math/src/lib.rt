@@ -208,7 +208,8 @@ pub fn original_four(
     c: usize,
     d: usize,
 ) -> [f64; 4]
-    requires { ⌜ Readable (length (now q)) (now s) a × Readable (length (now q)) (now s) b × Readable (length (now q)) (now s) c × Readable (length (now q)) (now s) d ⌝ }
+    requires { ⌜ Readable (length (now q)) (now s) a × Readable (length (now q)) (now s) b × Readable (length (now q)) (now s) c
+        × Readable (length (now q)) (now s) d ⌝ }
     requires { ⌜ (isCosine metric ≡ true → «q_inverse» ≡ inverseNorm (now q)) ⌝ }
     ensures { λ r. ⌜ r ≡ originalFour metric (now (q .entry)) (floatsAt (length (now (q .entry))) (now (s .entry)) a) (floatsAt (length (now (q .entry))) (now (s .entry)) b) (floatsAt (length (now (q .entry))) (now (s .entry)) c) (floatsAt (length (now (q .entry))) (now (s .entry)) d) ⌝ }
 {

@@ -10,17 +10,17 @@ use Rattle.le.proofs.Chain.{by, held}
 use Rattle.config.specs.Refusal.{none, refused, refusedOr}
 use Rattle.format.specs.Fields.{dimensionsOf, rowsOf}
 use Rattle.format.proofs.Refusals.{or-else-not}
-use Rattle.geometry.specs.Cache.{rowLength, cacheBetween, cacheSize, identityLength}
-use Rattle.geometry.specs.Sizing.{placeOk, optionsOk, codesOk, sizeOk, boundsNumber, limitsNumber, sizingNumber}
-use Rattle.geometry.specs.declared.Options.{Options}
+use Rattle.cache_format.specs.Cache.{rowLength, cacheBetween, cacheSize, identityLength}
+use Rattle.cache_format.specs.Sizing.{placeOk, optionsOk, codesOk, sizeOk, boundsNumber, limitsNumber, sizingNumber}
+use Rattle.cache_format.specs.declared.Options.{Options}
 use Rattle.manifest.specs.Check.{manifestNumber}
 use Rattle.manifest.proofs.Passed.{other-room, manifest-not-5}
 use Rattle.segment.specs.Check.{libraryRefusal}
 use Rattle.segment.proofs.Library.{library-accepted, accepted-number}
 use Rattle.quantized_cache.specs.Size.{sizeOf, sizingOf}
-use Rattle.rows.specs.Rows.{recordsRefusal}
-use Rattle.rows.proofs.Written.{all-good}
-use Rattle.prepare.specs.Prepare.{lateRefusal, acceptedRefusal, prepareRefusal}
+use Rattle.encoded_rows.specs.Rows.{badRecordRefusal}
+use Rattle.encoded_rows.proofs.Written.{all-good}
+use Rattle.prepare.specs.Prepare.{storeRefusal, acceptedRefusal, prepareRefusal}
 use Rattle.prepare.proofs.Stored.{accepted-manifest}
 
 sizing-not-5 : (platform root limit block manifest rows dimensions : ℕ) → sizingNumber platform root limit block manifest rows dimensions ≡ 5 → ⊥
@@ -37,8 +37,8 @@ unfolding sizingOf
 size-not-5 m platform root o h = sizing-not-5 (length platform) (length root) (o .«max_cache_bytes») (o .«buffer_bytes») (length m) (rowsOf m) (dimensionsOf m) h
 
 -- after sizing it is refused by 11 alone
-late-accepted : (m s : List ℕ) (size lent : ℕ) → recordsRefusal m s ≡ none → lateRefusal m s size lent ≡ cond (leb size lent) none (refused 11 0)
-unfolding lateRefusal
+late-accepted : (m s : List ℕ) (size lent : ℕ) → badRecordRefusal m s ≡ none → storeRefusal m s size lent ≡ cond (leb size lent) none (refused 11 0)
+unfolding storeRefusal
 late-accepted m s size lent r = rw r (by (leb size lent) (λ e. rw e) (λ e. rw e))
 
 late-not-5 : (t : Bool) → cond t none (refused 11 0) .number ≡ 5 → ⊥

@@ -14,7 +14,7 @@ use lib.ListN.{length, take, drop, length-append}
 use lib.Seq.{take-at}
 use borrow.Author.Tests.{eq-eqb}
 use lib.Dec.{lit≤}
-use Rattle.le.specs.Le.{bytes}
+use Rattle.le.specs.Le.{bytes, joined}
 use Rattle.le.proofs.LeLaws.{AllBytes, length-bytes, bytes-all, append-bytes, take-bytes, drop-bytes}
 use Rattle.crc32.specs.Crc.{crc32}
 use Rattle.crc32.proofs.Fits.{ends-in-crc}
@@ -31,20 +31,20 @@ use Rattle.format.specs.Fields.{dimensionsOf, rowsOf, metricAt}
 use Rattle.format.proofs.Heads.{bounds}
 use Rattle.format.proofs.First.{all-pass}
 use Rattle.segment.specs.Record.{recordAt}
-use Rattle.geometry.specs.Cache.{cacheMagic, counted, inner, identity, rowLength, cacheVersion, cacheBetween, headRest, cacheHead, cacheBytes}
-use Rattle.geometry.specs.declared.Options.{Options}
-use Rattle.geometry.proofs.Parts.{length-head, length-cache, length-identity, magic-bytes}
-use Rattle.geometry.proofs.Opens.{head-opens}
+use Rattle.cache_format.specs.Cache.{cacheMagic, counted, inner, identity, rowLength, cacheVersion, cacheBetween, headRest, cacheHead, cacheBytes}
+use Rattle.cache_format.specs.declared.Options.{Options}
+use Rattle.cache_format.proofs.Parts.{length-head, length-cache, length-identity, magic-bytes}
+use Rattle.cache_format.proofs.Opens.{head-opens}
 use Rattle.manifest.specs.Check.{manifestNumber}
 use Rattle.manifest.proofs.Passed.{other-room}
 use Rattle.quantized_cache.specs.Size.{sizeOf, sizeNumber}
 use Rattle.quantized_cache.specs.Open.{rowStart, cachedAt, cachedOk, badRow, contentRefusal, openNumber, openRefusal, stateOf, openedBy, opened}
-use Rattle.rows.specs.Rows.{rowOf, joined, rowsBytes, badRow as lowestBad}
+use Rattle.encoded_rows.specs.Rows.{rowOf, rowsBytes, lowestBad}
 use Rattle.prepare.specs.Prepare.{prepareRefusal, cacheOf, cacheAfter}
 use Rattle.quantized_cache.proofs.Sizes.{sizing-in}
 use Rattle.quantized_cache.proofs.Opens.{lies, first-start}
-use Rattle.rows.proofs.Written.{rows-valid}
-use Rattle.rows.proofs.Joined.{rest-of}
+use Rattle.encoded_rows.proofs.Written.{rows-valid}
+use Rattle.le.proofs.Joined.{rest-of}
 use Rattle.prepare.proofs.Stored.{length-rows, ready}
 
 -- ---- the rows

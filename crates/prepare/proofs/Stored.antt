@@ -16,24 +16,24 @@ use Rattle.config.specs.Refusal.{refused, refusedOr}
 use Rattle.config.proofs.Refusals.{not-zero, goes-on, stops, none-refused, is-other, Plain, plain-or}
 use Rattle.quantization.specs.Encoder.{baseLevels, midpoints}
 use Rattle.format.specs.Fields.{rowsOf, dimensionsOf}
-use Rattle.geometry.specs.Cache.{identity, identityLength, cacheVersion, cacheBetween, cacheHead, cacheBytes}
-use Rattle.geometry.proofs.Parts.{length-identity, length-head}
+use Rattle.cache_format.specs.Cache.{identity, identityLength, cacheVersion, cacheBetween, cacheHead, cacheBytes}
+use Rattle.cache_format.proofs.Parts.{length-identity, length-head}
 use Rattle.manifest.specs.Check.{manifestNumber}
 use Rattle.manifest.proofs.Passed.{accepted}
 use Rattle.quantized_cache.specs.Size.{sizeOf, sizingOf}
-use Rattle.geometry.specs.declared.Options.{Options}
+use Rattle.cache_format.specs.declared.Options.{Options}
 use Rattle.quantized_cache.proofs.Sizes.{Passed}
 use Rattle.quantization.specs.View.{rowBytes}
-use Rattle.rows.specs.Rows.{rowOf, rowsBytes, badRow, recordsRefusal}
-use Rattle.rows.proofs.Written.{length-own, none-bad, records-plain}
-use Rattle.rows.proofs.Joined.{length-joined}
-use Rattle.prepare.specs.Prepare.{roomNumber, lateRefusal, acceptedRefusal, prepareRefusal, cacheOf, cacheAfter, infoOf, noInfo, preparedBy}
+use Rattle.encoded_rows.specs.Rows.{rowOf, rowsBytes, lowestBad, badRecordRefusal}
+use Rattle.encoded_rows.proofs.Written.{length-own, none-bad, records-plain}
+use Rattle.le.proofs.Joined.{length-joined}
+use Rattle.prepare.specs.Prepare.{cacheRoomNumber, storeRefusal, acceptedRefusal, prepareRefusal, cacheOf, cacheAfter, infoOf, noInfo, preparedBy}
 
 -- what is not refused after sizing
-pub late-passed : (m s : List ℕ) (size room : ℕ) → lateRefusal m s size room .number ≡ 0 → (size ≤ room) × (badRow m s ≡ rowsOf m)
-unfolding lateRefusal
+pub late-passed : (m s : List ℕ) (size room : ℕ) → storeRefusal m s size room .number ≡ 0 → (size ≤ room) × (lowestBad m s ≡ rowsOf m)
+unfolding storeRefusal
 late-passed m s size room h =
-    let a = none-refused (roomNumber size room) (recordsRefusal m s) h in
+    let a = none-refused (cacheRoomNumber size room) (badRecordRefusal m s) h in
     (leb-true size room (held (leb size room) not-zero (a .0) .0), none-bad m s (a .1))
 
 pub length-rows : (m s : List ℕ) (n : ℕ) → length (rowsBytes baseLevels midpoints m s n) ≡ n * (dimensionsOf m + 16)
@@ -94,11 +94,11 @@ module _ (m : List ℕ) (expected scratch : ℕ) (s platform root : List ℕ) (o
 module _ (m s platform root : List ℕ) (o : Options) (room : ℕ) where
   pub refused-sizing : (sizingOf m platform root o ≡ 0 → ⊥) → acceptedRefusal m s platform root o room ≡ refused (sizingOf m platform root o) 0
   unfolding acceptedRefusal
-  refused-sizing h = stops (sizingOf m platform root o) (lateRefusal m s (sizeOf m platform root) room) h
+  refused-sizing h = stops (sizingOf m platform root o) (storeRefusal m s (sizeOf m platform root) room) h
 
-  pub sized : sizingOf m platform root o ≡ 0 → acceptedRefusal m s platform root o room ≡ lateRefusal m s (sizeOf m platform root) room
+  pub sized : sizingOf m platform root o ≡ 0 → acceptedRefusal m s platform root o room ≡ storeRefusal m s (sizeOf m platform root) room
   unfolding acceptedRefusal
-  sized h = goes-on (sizingOf m platform root o) (lateRefusal m s (sizeOf m platform root) room) h
+  sized h = goes-on (sizingOf m platform root o) (storeRefusal m s (sizeOf m platform root) room) h
 
 pub refused-answer : (m : List ℕ) (size other n : ℕ) → (n ≡ 0 → ⊥) → preparedBy m size (refused n 0) ≡ preparedBy m other (refused n 0)
 unfolding preparedBy
@@ -113,24 +113,24 @@ pub record Ready (m : List ℕ) (expected room : ℕ) (s platform root : List �
   pub number : manifestNumber m expected room ≡ 0
   pub library : Passed m expected room platform root o
   pub fits : sizeOf m platform root ≤ lent
-  pub records : badRow m s ≡ rowsOf m
+  pub records : lowestBad m s ≡ rowsOf m
 
 pub ready : (m : List ℕ) (expected room : ℕ) (s platform root : List ℕ) (o : Options) (lent : ℕ)
     → prepareRefusal m expected room s platform root o lent .number ≡ 0 → Ready m expected room s platform root o lent
 unfolding prepareRefusal acceptedRefusal
 ready m expected room s platform root o lent h =
     let n = none-refused (manifestNumber m expected room) (acceptedRefusal m s platform root o lent) h in
-    let k = none-refused (sizingOf m platform root o) (lateRefusal m s (sizeOf m platform root) lent) (n .1) in
+    let k = none-refused (sizingOf m platform root o) (storeRefusal m s (sizeOf m platform root) lent) (n .1) in
     let l = late-passed m s (sizeOf m platform root) lent (k .1) in
     record { number = n .0; library = record { manifest = accepted m expected room (n .0) .0; sizing = k .0 }; fits = l .0; records = l .1 }
 
 -- number 0 is no refusal
-late-plain : (m s : List ℕ) (size room : ℕ) → Plain (lateRefusal m s size room)
-unfolding lateRefusal
-late-plain m s size room = plain-or (roomNumber size room) (recordsRefusal m s) (records-plain m s)
+late-plain : (m s : List ℕ) (size room : ℕ) → Plain (storeRefusal m s size room)
+unfolding storeRefusal
+late-plain m s size room = plain-or (cacheRoomNumber size room) (badRecordRefusal m s) (records-plain m s)
 
 pub prepared-none : (m : List ℕ) (expected room : ℕ) (s platform root : List ℕ) (o : Options) (lent : ℕ) → Plain (prepareRefusal m expected room s platform root o lent)
 unfolding prepareRefusal acceptedRefusal
 prepared-none m expected room s platform root o lent =
-    plain-or (manifestNumber m expected room) (refusedOr (sizingOf m platform root o) (lateRefusal m s (sizeOf m platform root) lent))
-    (plain-or (sizingOf m platform root o) (lateRefusal m s (sizeOf m platform root) lent) (late-plain m s (sizeOf m platform root) lent))
+    plain-or (manifestNumber m expected room) (refusedOr (sizingOf m platform root o) (storeRefusal m s (sizeOf m platform root) lent))
+    (plain-or (sizingOf m platform root o) (storeRefusal m s (sizeOf m platform root) lent) (late-plain m s (sizeOf m platform root) lent))

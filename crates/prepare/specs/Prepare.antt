@@ -9,25 +9,25 @@ use Rattle.config.specs.declared.Refusal.{Refusal}
 use Rattle.quantization.specs.Encoder.{baseLevels, midpoints}
 use Rattle.format.specs.Order.{unless}
 use Rattle.format.specs.Fields.{generationOf, sequenceOf, rowsOf, dimensionsOf}
-use Rattle.geometry.specs.Cache.{identity, cacheVersion, cacheBetween, cacheBytes}
-use Rattle.geometry.specs.declared.Options.{Options}
+use Rattle.cache_format.specs.Cache.{identity, cacheVersion, cacheBetween, cacheBytes}
+use Rattle.cache_format.specs.declared.Options.{Options}
 use Rattle.manifest.specs.Check.{manifestNumber}
 use Rattle.quantized_cache.specs.Size.{sizingOf, sizeOf}
-use Rattle.rows.specs.Rows.{rowsBytes, recordsRefusal}
+use Rattle.encoded_rows.specs.Rows.{rowsBytes, badRecordRefusal}
 use Rattle.prepare.specs.declared.Info.{Info}
 use Rattle.prepare.specs.declared.Prepared.{Prepared}
 
 -- 11: `room` is the length of the cache lent
-abbrev pub roomNumber : ℕ → ℕ → ℕ
-roomNumber size room = unless (leb size room) 11 0
+abbrev pub cacheRoomNumber : ℕ → ℕ → ℕ
+cacheRoomNumber size room = unless (leb size room) 11 0
 
 -- the refusals after sizing's: 11, then 5
-unfoldable pub lateRefusal : List ℕ → List ℕ → ℕ → ℕ → Refusal
-lateRefusal m s size room = refusedOr (roomNumber size room) (recordsRefusal m s)
+unfoldable pub storeRefusal : List ℕ → List ℕ → ℕ → ℕ → Refusal
+storeRefusal m s size room = refusedOr (cacheRoomNumber size room) (badRecordRefusal m s)
 
 -- those of an accepted manifest
 unfoldable pub acceptedRefusal : List ℕ → List ℕ → List ℕ → List ℕ → Options → ℕ → Refusal
-acceptedRefusal m s platform root o room = refusedOr (sizingOf m platform root o) (lateRefusal m s (sizeOf m platform root) room)
+acceptedRefusal m s platform root o room = refusedOr (sizingOf m platform root o) (storeRefusal m s (sizeOf m platform root) room)
 
 unfoldable pub prepareRefusal : List ℕ → ℕ → ℕ → List ℕ → List ℕ → List ℕ → Options → ℕ → Refusal
 prepareRefusal m expected scratch s platform root o room =

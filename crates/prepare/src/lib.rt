@@ -7,17 +7,20 @@ ghost use lib.ListN.{length, take, drop};
 ghost use Rattle.quantization.specs.Encoder.{baseLevels, midpoints};
 ghost use Rattle.format.specs.Fields.{rowsOf, dimensionsOf};
 ghost use Rattle.format.specs.Head.{headNumber};
+ghost use Rattle.format.specs.Layout.{LaidOut};
 ghost use Rattle.entries.specs.Plan.{rowsOk};
 ghost use Rattle.crc32.specs.Crc.{crc32};
 ghost use Rattle.le.specs.Le.{bytes, paste};
 ghost use Rattle.manifest.specs.Scratch.{rowKeys};
 ghost use Rattle.manifest.specs.Check.{scratchAfter};
-ghost use Rattle.geometry.specs.Cache.{rowLength, Lent};
+ghost use Rattle.segment.specs.Record.{startsOf};
+ghost use Rattle.cache_format.specs.Cache.{rowLength, Lent};
 ghost use Rattle.quantized_cache.specs.Size.{sizeOf};
-ghost use Rattle.rows.specs.Rows.{rowsBytes, badRow};
-ghost use Rattle.prepare.specs.Prepare.{lateRefusal, cacheOf, cacheAfter, infoOf, preparedBy, preparedAccepted, prepared};
+ghost use Rattle.encoded_rows.specs.Rows.{rowsBytes, lowestBad};
+ghost use Rattle.prepare.specs.Prepare.{storeRefusal, cacheOf, cacheAfter, infoOf, preparedBy, preparedAccepted, prepared};
+use cache_format::Options;
 use config::Refusal;
-use geometry::Options;
+use format::Layout;
 
 // What was prepared: the Rust's `QuantizedCacheInfo`.
 pub struct Info {
@@ -34,9 +37,17 @@ pub struct Prepared {
 }
 
 // The refusals after sizing's: the cache's room, then the lowest bad record.
-fn late_refusal(m: &[u8], s: &[u8], keys: &[u64], size: usize, room: usize) -> Refusal
-    requires { ⌜ (headNumber (now m) ≡ 0) × (rowsOk (now m) ≡ true) × (now keys ≡ rowKeys (now m)) ⌝ }
-    ensures { λ r. ⌜ r ≡ lateRefusal (now (m .entry)) (now (s .entry)) size room ⌝ }
+fn store_refusal(
+    m: &[u8],
+    layout: Layout,
+    starts: &[u64; 1025],
+    s: &[u8],
+    keys: &[u64],
+    size: usize,
+    room: usize,
+) -> Refusal
+    requires { ⌜ LaidOut (now m) layout × (rowsOk (now m) ≡ true) × (now starts ≡ startsOf (now m)) × (now keys ≡ rowKeys (now m)) ⌝ }
+    ensures { λ r. ⌜ r ≡ storeRefusal (now (m .entry)) (now (s .entry)) size room ⌝ }
 {
     if room < size {
         return Refusal {
@@ -44,9 +55,7 @@ fn late_refusal(m: &[u8], s: &[u8], keys: &[u64], size: usize, room: usize) -> R
             place: 0,
         };
     }
-    let layout = format::read_layout(m);
-    let starts = segment::starts(m, layout);
-    rows::records_refusal(m, layout, &starts, s, keys)
+    encoded_rows::records_refusal(m, layout, starts, s, keys)
 }
 
 // The cache's CRC-32, behind all else.
@@ -58,28 +67,35 @@ pub fn put_crc(cache: &mut [u8], end: usize)
     le::put_u32(cache, end, crc);
 }
 
-fn store_rows(m: &[u8], s: &[u8], cache: &mut [u8], at: usize)
-    requires { ⌜ (headNumber (now m) ≡ 0) × (rowsOk (now m) ≡ true) × (badRow (now m) (now s) ≡ rowsOf (now m))
+fn store_rows(m: &[u8], layout: Layout, starts: &[u64; 1025], s: &[u8], cache: &mut [u8], at: usize)
+    requires { ⌜ LaidOut (now m) layout × (rowsOk (now m) ≡ true) × (now starts ≡ startsOf (now m)) × (lowestBad (now m) (now s) ≡ rowsOf (now m))
         × (at + rowsOf (now m) * rowLength (dimensionsOf (now m)) ≤ length (now cache)) ⌝ }
     ensures { λ r. ⌜ now (cache .exit) ≡ paste (now (cache .entry)) at (rowsBytes baseLevels midpoints (now (m .entry)) (now (s .entry)) (rowsOf (now (m .entry)))) ⌝ }
 {
-    let layout = format::read_layout(m);
-    let starts = segment::starts(m, layout);
     let t = quantization::midpoints_table();
-    let row = geometry::row_length(layout.dimensions);
+    let row = cache_format::row_length(layout.dimensions);
     let levels = quantization::BASE_LEVELS;
-    rows::put_rows(m, layout, &starts, &t, levels, s, cache, at, row);
+    encoded_rows::put_rows(m, layout, starts, &t, levels, s, cache, at, row);
 }
 
 // Head, rows, CRC-32.
-fn store(m: &[u8], s: &[u8], platform: &[u8], root: &[u8], cache: &mut [u8], size: usize)
-    requires { ⌜ (headNumber (now m) ≡ 0) × (rowsOk (now m) ≡ true) × (badRow (now m) (now s) ≡ rowsOf (now m))
+fn store(
+    m: &[u8],
+    layout: Layout,
+    starts: &[u64; 1025],
+    s: &[u8],
+    platform: &[u8],
+    root: &[u8],
+    cache: &mut [u8],
+    size: usize,
+)
+    requires { ⌜ LaidOut (now m) layout × (rowsOk (now m) ≡ true) × (now starts ≡ startsOf (now m)) × (lowestBad (now m) (now s) ≡ rowsOf (now m))
         × (size ≡ sizeOf (now m) (now platform) (now root)) × Lent (now platform) (now root) (now m) size × (size ≤ length (now cache)) ⌝ }
     ensures { λ r. ⌜ now (cache .exit) ≡ cacheOf (now (m .entry)) (now (s .entry)) (now (platform .entry)) (now (root .entry)) ++ drop size (now (cache .entry)) ⌝ }
 {
-    let at = 16 + geometry::identity_length(platform.len(), root.len(), m.len());
-    geometry::put_head(cache, platform, root, m);
-    store_rows(m, s, cache, at);
+    let at = 16 + cache_format::identity_length(platform.len(), root.len(), m.len());
+    cache_format::put_head(cache, platform, root, m);
+    store_rows(m, layout, starts, s, cache, at);
     put_crc(cache, size - 4);
 }
 
@@ -131,14 +147,16 @@ fn fill(
 ) -> Refusal
     requires { ⌜ (headNumber (now m) ≡ 0) × (rowsOk (now m) ≡ true) × (now keys ≡ rowKeys (now m))
         × (size ≡ sizeOf (now m) (now platform) (now root)) × Lent (now platform) (now root) (now m) size ⌝ }
-    ensures { λ r. ⌜ (r ≡ lateRefusal (now (m .entry)) (now (s .entry)) size (length (now (cache .entry))))
+    ensures { λ r. ⌜ (r ≡ storeRefusal (now (m .entry)) (now (s .entry)) size (length (now (cache .entry))))
         × (now (cache .exit) ≡ cacheAfter (now (m .entry)) (now (s .entry)) (now (platform .entry)) (now (root .entry)) r (now (cache .entry))) ⌝ }
 {
-    let refusal = late_refusal(m, s, keys, size, cache.len());
+    let layout = format::read_layout(m);
+    let starts = segment::starts(m, layout);
+    let refusal = store_refusal(m, layout, &starts, s, keys, size, cache.len());
     if refusal.number != 0 {
         return refusal;
     }
-    store(m, s, platform, root, cache, size);
+    store(m, layout, &starts, s, platform, root, cache, size);
     refusal
 }
 

@@ -18,7 +18,7 @@ use lib.Ieee.Positive.{positive, positive-of-value}
 use mir.Syntax.{w64}
 use mir.Val.{SFits}
 use Rattle.le.proofs.Chain.{by}
-use Rattle.float.specs.Values.{zero as nought, one, abs}
+use Rattle.float.specs.Values.{plusZero, one, abs}
 use Rattle.float.specs.Order.{negative}
 use Rattle.float.proofs.Within.{Within, half}
 use Rattle.float.proofs.Bounds.{within-trans, within-of-le, le-of-within}
@@ -26,7 +26,7 @@ use Rattle.float.proofs.Patterns.{mag, mag-pos, plain-value, bits-finite}
 use Rattle.float.proofs.Singles.{most32, positive-parts}
 use Rattle.config.specs.Metric.{isCosine}
 use Rattle.config.specs.declared.Metric.{Metric}
-use Rattle.config.specs.Vector.{all, finites, zeros, validVector, largestPatternFrom, largestBits}
+use Rattle.config.specs.Vector.{all, finites, allZero, validVector, largestPatternFrom, largestBits}
 use Rattle.config.proofs.Vectors.{zeros-largest, finites-largest, largest-ltb}
 use Rattle.codes.specs.Codes.{squares, within}
 use Rattle.quantization.specs.View.{rowBytes, rowAt, validRow}
@@ -193,7 +193,7 @@ module _ {levels : ℕ} (g : Levels levels) (bs : List ℕ) (h : finites (map (o
       (reaches (codeAt mids) 1 0 bs p (λ b e. let q = quotient p b e in rw (q .2 mids) (reached g t (div binary64 (ofBits binary32 (largestBits bs)) scale) (q .0) (q .1))))
 
 -- ---- the row test
-above-zero : (x : Float) → T (positive x) → lt nought x ≡ true
+above-zero : (x : Float) → T (positive x) → lt plusZero x ≡ true
 unfolding lt
 above-zero nan h = absurd h
 above-zero (inf s) h = absurd h
@@ -210,7 +210,7 @@ module _ {levels : ℕ} {mids : List Float} (g : Levels levels) (t : Table level
       let v = map (ofBits binary32) bs in
       let a = eqb (length v) d in
       let b = finites v in
-      let z = isCosine metric && zeros v in
+      let z = isCosine metric && allZero v in
       let o : T (a && b && not z) = rw h tt in
       let f : b ≡ true = is-true b (and-r a b (and-l (a && b) (not z) o)) in
       let n : T (not z) = and-r (a && b) (not z) o in
@@ -223,7 +223,7 @@ module _ {levels : ℕ} {mids : List Float} (g : Levels levels) (t : Table level
       (λ p. rw p) in
       rw (is-true (finite s) (positive-parts s w .0), above-zero s w, codes-within levels mids (t .count) v, eq-eqb r r refl, c)
     where
-      some : isCosine metric ≡ true → T (not (isCosine metric && zeros (map (ofBits binary32) bs))) → 0 < largestBits bs
+      some : isCosine metric ≡ true → T (not (isCosine metric && allZero (map (ofBits binary32) bs))) → 0 < largestBits bs
       some p n =
           by (ltb (largestBits bs) 1)
           (λ t. absurd (rw (p, zeros-largest bs, t) at n))
@@ -236,10 +236,10 @@ module _ {levels : ℕ} {mids : List Float} (g : Levels levels) (t : Table level
       subst (λ (x : List Float). validRow levels metric (encode levels mids x) ≡ true) e (valid-patterns metric d (map (toBits binary32) v) (rw e h))
 
 -- the norm of a vector that is not zero: at least 1, and with the formula's midpoints at least the level count squared
-not-zeros : (bs : List ℕ) → zeros (map (ofBits binary32) bs) ≡ false → 0 < largestBits bs
+not-zeros : (bs : List ℕ) → allZero (map (ofBits binary32) bs) ≡ false → 0 < largestBits bs
 not-zeros bs h = ltb-false (largestBits bs) 1 (sym (zeros-largest bs) ∙ h)
 
-module _ {levels : ℕ} (g : Levels levels) (v : List Float) (f : all (fits binary32) v ≡ true) (h : finites v ≡ true) (n : zeros v ≡ false) where
+module _ {levels : ℕ} (g : Levels levels) (v : List Float) (f : all (fits binary32) v ≡ true) (h : finites v ≡ true) (n : allZero v ≡ false) where
   pub norm-some : {mids : List Float} → Table levels mids → 1 ≤ squares (encode levels mids v .codes)
   norm-some {mids} t =
       let e = of-patterns v f in
@@ -253,7 +253,7 @@ module _ {levels : ℕ} (g : Levels levels) (v : List Float) (f : all (fits bina
       subst (λ (x : List Float). levels * levels ≤ squares (encode levels (midpointsOf levels) x .codes)) e (formula-norm g bs (rw e h) (not-zeros bs (rw e n)))
 
 -- ---- a zero vector
-not-under : (m : Float) → T (positive m) → le m nought ≡ false
+not-under : (m : Float) → T (positive m) → le m plusZero ≡ false
 unfolding le lt eq
 not-under nan h = absurd h
 not-under (inf s) h = absurd h
@@ -262,13 +262,13 @@ not-under (fin false m e) h =
     let k = positive-parts (fin false m e) h .2 in
     rw (zero-mul (down e), mul-one (m * up e), le-ltb (m * up e) 0 (omega arith), ne-eqb (m * up e) 0 (λ q. omega arith))
 
-zero-quotient : div binary64 (ofBits binary32 0) one ≡ nought
+zero-quotient : div binary64 (ofBits binary32 0) one ≡ plusZero
 unfolding div ofBits
 zero-quotient = refl
 
 module _ {levels : ℕ} {mids : List Float} (t : Table levels mids) where
   zero-code : notAbove mids (div binary64 (ofBits binary32 0) one) ≡ 0
-  zero-code = rw zero-quotient (none mids nought (λ i l. not-under (getD mids i nan) (t .plus i (rw (← t .count) l))))
+  zero-code = rw zero-quotient (none mids plusZero (λ i l. not-under (getD mids i nan) (t .plus i (rw (← t .count) l))))
 
   no-squares : (bs : List ℕ) → all (λ b. ltb (b % 2147483648) 1) bs ≡ true → squares (map (λ b. codeOf mids (div binary64 (ofBits binary32 b) one)) bs) ≡ 0
   unfolding squares codeOf
@@ -281,7 +281,7 @@ module _ {levels : ℕ} {mids : List Float} (t : Table levels mids) where
       abs-signed (negative q) (notAbove mids (abs q)) ∙ rw (code-abs b one (bits-finite binary32 b (omega arith)) tt, z) zero-code in
       rw (n, no-squares bs (k .1))
 
-  zero-patterns : (bs : List ℕ) → zeros (map (ofBits binary32) bs) ≡ true
+  zero-patterns : (bs : List ℕ) → allZero (map (ofBits binary32) bs) ≡ true
       → let r = encode levels mids (map (ofBits binary32) bs) in (r .scale ≡ one) × (r .norm ≡ pos 0)
   unfolding encode scaleBy
   zero-patterns bs h =
@@ -291,7 +291,7 @@ module _ {levels : ℕ} {mids : List Float} (t : Table levels mids) where
       let s : scaleOf levels (map (ofBits binary32) bs) ≡ one = rw (largest-is bs f, m) (unfold ofBits eq in refl) in
       (s, rw (s, map-map (λ x. codeOf mids (div binary64 x one)) (ofBits binary32) bs) (ap pos (no-squares bs (sym (largest-ltb 1 0 bs) ∙ l))))
 
-  pub zero-row : (v : List Float) → all (fits binary32) v ≡ true → zeros v ≡ true → let r = encode levels mids v in (r .scale ≡ one) × (r .norm ≡ pos 0)
+  pub zero-row : (v : List Float) → all (fits binary32) v ≡ true → allZero v ≡ true → let r = encode levels mids v in (r .scale ≡ one) × (r .norm ≡ pos 0)
   zero-row v f h = let e = of-patterns v f in rw e at (zero-patterns (map (toBits binary32) v) (rw e h))
 
 -- ---- the formula's midpoints, and the base

@@ -15,7 +15,7 @@ use lib.Ieee.Fits.{cond-fits, div-fits, and-i}
 use lib.Ieee.Scale.{round-same, finite}
 use lib.Ieee.Positive.{num, den, den-pos, through, positive, value→cross}
 use Rattle.le.proofs.Chain.{by}
-use Rattle.float.specs.Values.{zero as nought, one}
+use Rattle.float.specs.Values.{plusZero, one}
 use Rattle.float.specs.Order.{negative}
 use Rattle.float.proofs.BitLaws.{value-finite, value-sign}
 use Rattle.float.proofs.Within.{Within, holds, two, half}
@@ -203,7 +203,7 @@ pub record Plain (x : Float) : Type 0 where
   pub fine : T (finite x)
   pub sign : negative x ≡ false
 
-above : (x : Float) → Plain x → eq x nought ≡ false → T (positive x)
+above : (x : Float) → Plain x → eq x plusZero ≡ false → T (positive x)
 above x p e = not-zero x (p .fine) (p .sign) e
 
 module _ {levels : ℕ} (g : Levels levels) (x : Float) (p : Plain x) where
@@ -213,13 +213,13 @@ module _ {levels : ℕ} (g : Levels levels) (x : Float) (p : Plain x) where
 
   pub scale-plus : T (positive (scaleBy levels x))
   unfolding scaleBy
-  scale-plus = by (eq x nought) (λ e. rw e tt) (λ e. rw e (part g x (p .fit) (above x p e) .plus))
+  scale-plus = by (eq x plusZero) (λ e. rw e tt) (λ e. rw e (part g x (p .fit) (above x p e) .plus))
 
   -- from 2 ^ -149 / levels
   pub scale-low : Within (div binary64 (half 148) (float levels)) (scaleBy levels x)
   unfolding scaleBy
   scale-low =
-      by (eq x nought)
+      by (eq x plusZero)
       (λ e. rw e (div-under binary64 one (within-refl (half 148) tt) (level-over g) tt))
       (λ e. let w = above x p e in rw e (div-within binary64 (least x (p .fit) w) (within-refl (float levels) (level-fine (g .1))) (level-pos g) (part g x (p .fit) w .low .bound)))
 
@@ -228,13 +228,13 @@ module _ {levels : ℕ} (g : Levels levels) (x : Float) (p : Plain x) where
   unfolding scaleBy
   scale-high =
       let f : T (finite (div binary64 most32 (float levels))) = div-under binary64 (two 128) (within-refl most32 tt) (level-over g) tt .fine in
-      by (eq x nought)
+      by (eq x plusZero)
       (λ e. rw e (div-over binary64 one (within-refl most32 tt) (level-under g) (level-pos g) tt (lit≤ tt) f))
       (λ e. rw e (div-within binary64 (under-most x (p .fit) (p .fine)) (within-refl (float levels) (level-fine (g .1))) (level-pos g) f))
 
 pub scale-fits : (levels : ℕ) (x : Float) → T (fits binary64 (scaleBy levels x))
 unfolding scaleBy
-scale-fits levels x = cond-fits binary64 (eq x nought) one (div binary64 x (float levels)) (unfold fits in tt) (div-fits binary64 x (float levels))
+scale-fits levels x = cond-fits binary64 (eq x plusZero) one (div binary64 x (float levels)) (unfold fits in tt) (div-fits binary64 x (float levels))
 
 -- the bounds are numbers with no sign
 pub bound-sign : {levels : ℕ} → Levels levels → (x : Float) → T (finite x) → negative x ≡ false → negative (div binary64 x (float levels)) ≡ false

@@ -9,7 +9,7 @@ use lib.Dec.{T}
 use lib.ListN.{length, getD}
 use lib.Ieee.{Float, nan, fin, binary64, div, lt, le, eq, ofInt}
 use lib.Ieee.Positive.{positive}
-use Rattle.float.specs.Values.{zero as nought, one, abs}
+use Rattle.float.specs.Values.{plusZero, one, abs}
 use Rattle.float.specs.Order.{negative}
 use Rattle.codes.specs.Codes.{squares}
 use Rattle.quantization.specs.View.{View}
@@ -20,11 +20,11 @@ largestFrom acc [] = acc
 largestFrom acc (x ∷ v) = largestFrom (cond (lt acc (abs x)) (abs x) acc) v
 
 abbrev pub largest : List Float → Float
-largest v = largestFrom nought v
+largest v = largestFrom plusZero v
 
 -- "scale is largest magnitude / 127, or 1.0 for a zero vector"
 unfoldable pub scaleBy : ℕ → Float → Float
-scaleBy levels most = cond (eq most nought) one (div binary64 most (ofInt binary64 (pos levels)))
+scaleBy levels most = cond (eq most plusZero) one (div binary64 most (ofInt binary64 (pos levels)))
 
 abbrev pub scaleOf : ℕ → List Float → Float
 scaleOf levels v = scaleBy levels (largest v)

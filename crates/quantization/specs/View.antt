@@ -10,7 +10,7 @@ use lib.Ieee.Scale.{finite}
 use mir.Syntax.{w8, w64}
 use mir.Val.{toZ, ofZ}
 use Rattle.le.specs.Le.{leAt, bytes}
-use Rattle.float.specs.Values.{zero as nought}
+use Rattle.float.specs.Values.{plusZero}
 use Rattle.config.specs.Metric.{isCosine}
 use Rattle.config.specs.declared.Metric.{Metric}
 use Rattle.codes.specs.Codes.{codes as codesOf, part, squares, within}
@@ -36,7 +36,7 @@ isCount (negsuc n) w = false
 -- cosine"; w is the sum of the squared codes, and whole says that no code is beyond the levels. The range of the scale does not yet
 -- depend on the levels (document 02 (vi), (x): it divides by them).
 abbrev pub rowTest : ℕ → Metric → Float → ℤ → ℕ → Bool → Bool
-rowTest levels metric scale norm w whole = finite scale && lt nought scale && whole && isCount norm w && not (isCosine metric && isCount norm 0)
+rowTest levels metric scale norm w whole = finite scale && lt plusZero scale && whole && isCount norm w && not (isCosine metric && isCount norm 0)
 
 unfoldable pub validRow : ℕ → Metric → View → Bool
 validRow levels metric r = rowTest levels metric (r .scale) (r .norm) (squares (r .codes)) (within levels (r .codes))

@@ -1,3 +1,4 @@
+-- Between functions: what they promise one another. No contract of an entry and no theorem rests on this file.
 -- The walk over the midpoints (document 01, The arithmetic, Encoder: "compared with a fixed table of 127 midpoints").
 use mathlib.Core.Path.{_≡_}
 use mathlib.Core.Bool.{cond}

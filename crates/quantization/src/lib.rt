@@ -260,7 +260,8 @@ pub fn encode_row(t: &[f64; 127], levels: u32, s: &[u8], at: usize, out: &mut [u
     requires { ⌜ (now t ≡ midpoints) × Levels levels ⌝ }
     requires { ⌜ (16 ≤ length (now out)) × (length (now out) ≤ 4112) × (at + 4 * (length (now out) - 16) ≤ length (now s)) ⌝ }
     requires { ⌜ finites (floatsAt (length (now out) - 16) (now s) at) ≡ true ⌝ }
-    ensures { λ r. ⌜ (let e = encode levels (midpointsOf levels) (floatsAt (length (now (out .entry)) - 16) (now (s .entry)) at) in (now (out .exit) ≡ rowBytes e) × (r .scale ≡ e .scale) × (r .norm ≡ e .norm)) ⌝ }
+    ensures { λ r. ⌜ (let e = encode levels (midpointsOf levels) (floatsAt (length (now (out .entry)) - 16) (now (s .entry)) at) in (now (out .exit) ≡ rowBytes e)
+        × (r .scale ≡ e .scale) × (r .norm ≡ e .norm)) ⌝ }
 {
     let n = out.len() - 16;
     let scale = scale_of(levels, config::largest_bits(s, at, n));
@@ -286,7 +287,8 @@ pub fn encode_resident(t: &[f64; 127], levels: u32, s: &[u8], at: usize, out: &m
     requires { ⌜ (now t ≡ midpoints) × Levels levels ⌝ }
     requires { ⌜ (length (now out) ≤ 4096) × (at + 4 * length (now out) ≤ length (now s)) ⌝ }
     requires { ⌜ finites (floatsAt (length (now out)) (now s) at) ≡ true ⌝ }
-    ensures { λ r. ⌜ (let e = encode levels (midpointsOf levels) (floatsAt (length (now (out .entry))) (now (s .entry)) at) in (now (out .exit) ≡ e .codes) × (r .scale ≡ e .scale) × (r .norm ≡ e .norm)) ⌝ }
+    ensures { λ r. ⌜ (let e = encode levels (midpointsOf levels) (floatsAt (length (now (out .entry))) (now (s .entry)) at) in (now (out .exit) ≡ e .codes)
+        × (r .scale ≡ e .scale) × (r .norm ≡ e .norm)) ⌝ }
 {
     let n = out.len();
     let scale = scale_of(levels, config::largest_bits(s, at, n));
@@ -327,7 +329,8 @@ pub fn encode_query(t: &[f64; 127], levels: u32, v: &[f32], out: &mut [i16]) -> 
     requires { ⌜ (now t ≡ midpoints) × Levels levels ⌝ }
     requires { ⌜ (length (now v) ≤ 4096) × (length (now v) ≤ length (now out)) ⌝ }
     requires { ⌜ finites (now v) ≡ true ⌝ }
-    ensures { λ r. ⌜ (let e = encode levels (midpointsOf levels) (now (v .entry)) in (now (out .exit) ≡ e .codes ++ drop (length (now (v .entry))) (now (out .entry))) × (r .scale ≡ e .scale) × (r .norm ≡ e .norm)) ⌝ }
+    ensures { λ r. ⌜ (let e = encode levels (midpointsOf levels) (now (v .entry)) in (now (out .exit) ≡ e .codes ++ drop (length (now (v .entry))) (now (out .entry)))
+        × (r .scale ≡ e .scale) × (r .norm ≡ e .norm)) ⌝ }
 {
     let n = v.len();
     let scale = scale_of(levels, largest_bits(v));

@@ -12,10 +12,10 @@ use Rattle.quantization.specs.View.{rowAt, validRow}
 use Rattle.format.specs.Fields.{dimensionsOf, rowsOf}
 use Rattle.config.proofs.Refusals.{not-zero}
 use Rattle.format.proofs.Refusals.{or-else}
-use Rattle.geometry.specs.Cache.{identity, rowLength}
-use Rattle.geometry.specs.Open.{headOk, openNumber as cacheHeadNumber}
-use Rattle.geometry.specs.declared.Options.{Options}
-use Rattle.geometry.proofs.Opens.{head-long}
+use Rattle.cache_format.specs.Cache.{identity, rowLength}
+use Rattle.cache_format.specs.Open.{cacheHeadOk, cacheHeadNumber}
+use Rattle.cache_format.specs.declared.Options.{Options}
+use Rattle.cache_format.proofs.Opens.{head-long}
 use Rattle.quantized_cache.specs.Size.{sizeOf, sizeNumber}
 use Rattle.quantized_cache.specs.Open.{rowStart, RoomFor, cachedOk, openNumber}
 use Rattle.quantized_cache.proofs.Sizes.{Passed, passed}
@@ -55,5 +55,5 @@ unfolding openNumber cacheHeadNumber
 head-passed m expected room cache platform root o h =
     let size = sizeOf m platform root in
     let p = or-else (sizeNumber m expected room platform root o) (cacheHeadNumber 1 size (identity platform root m) cache) h in
-    let l = head-long 1 size cache (held (headOk 1 size cache) not-zero (p .1) .0) in
+    let l = head-long 1 size cache (held (cacheHeadOk 1 size cache) not-zero (p .1) .0) in
     record { library = passed m expected room platform root o (p .0); size = l; rows = rw l (omega arith) }

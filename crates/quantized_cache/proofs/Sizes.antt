@@ -7,8 +7,8 @@ use Rattle.format.specs.Fields.{dimensionsOf, rowsOf}
 use Rattle.manifest.specs.Check.{manifestNumber}
 use Rattle.format.proofs.Refusals.{or-else}
 use Rattle.manifest.proofs.Passed.{Planned, accepted}
-use Rattle.geometry.specs.declared.Options.{Options}
-use Rattle.geometry.proofs.Sizes.{Sized, sized}
+use Rattle.cache_format.specs.declared.Options.{Options}
+use Rattle.cache_format.proofs.Sizes.{Sized, sized}
 use Rattle.quantized_cache.specs.Size.{sizingOf, sizeNumber}
 
 pub sizing-in : (m platform root : List ℕ) (o : Options) → sizingOf m platform root o ≡ 0

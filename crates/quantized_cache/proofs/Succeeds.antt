@@ -19,13 +19,13 @@ use Rattle.format.proofs.First.{each-passes}
 use Rattle.format.proofs.Same.{Unchanged}
 use Rattle.manifest.specs.Check.{manifestNumber}
 use Rattle.manifest.proofs.Heads.{accepted-head}
-use Rattle.geometry.specs.Cache.{identity, cacheVersion, rowLength}
-use Rattle.geometry.specs.Open.{openNumber as headNumberOf}
-use Rattle.geometry.specs.declared.Options.{Options}
+use Rattle.cache_format.specs.Cache.{identity, cacheVersion, rowLength}
+use Rattle.cache_format.specs.Open.{cacheHeadNumber as headNumberOf}
+use Rattle.cache_format.specs.declared.Options.{Options}
 use Rattle.quantized_cache.specs.Size.{sizeOf, sizingOf, sizeNumber}
 use Rattle.quantized_cache.specs.Open.{RoomFor, cachedOk, badRow, contentRefusal, openNumber, openRefusal, cacheLengthOk, stateOf, openedBy, opened}
 use Rattle.quantized_cache.specs.declared.Opened.{Opened}
-use Rattle.quantized_cache.specs.declared.State.{State}
+use Rattle.quantized_cache.specs.declared.CacheState.{CacheState}
 use Rattle.quantized_cache.proofs.Opens.{head-passed}
 
 -- the rows and the CRC-32: number 0 is no refusal, and every row is valid
@@ -79,7 +79,7 @@ module _ (m : List ℕ) (expected room : ℕ) (cache platform root : List ℕ) (
       accepted-head lent m b c expected room (opened m expected room cache platform root o .state .head) n (ap (λ (x : Opened). x .state .head) opened-is)
 
 -- what a length that passes the search's test says
-pub length-passed : (state : State) (rows dimensions size : ℕ) → cacheLengthOk state rows dimensions size ≡ true → (size ≡ state .cache) × RoomFor size rows dimensions
+pub length-passed : (state : CacheState) (rows dimensions size : ℕ) → cacheLengthOk state rows dimensions size ≡ true → (size ≡ state .cache) × RoomFor size rows dimensions
 unfolding cacheLengthOk
 length-passed state rows dimensions size h =
     let b = and-eq-true-iff (eqb size (state .cache)) (leb (rows * rowLength dimensions + 4) size) .0 h in

@@ -15,12 +15,12 @@ use Rattle.quantization.specs.Encoder.{baseLevels}
 use Rattle.format.specs.Order.{orElse, firstBad}
 use Rattle.format.specs.Fields.{dimensionsOf, rowsOf, metricAt}
 use Rattle.format.specs.Head.{headAt, zeroHead}
-use Rattle.geometry.specs.Cache.{identity, cacheVersion, rowLength}
-use Rattle.geometry.specs.Open.{openNumber as cacheHeadNumber}
-use Rattle.geometry.specs.declared.Options.{Options}
+use Rattle.cache_format.specs.Cache.{identity, cacheVersion, rowLength}
+use Rattle.cache_format.specs.Open.{cacheHeadNumber}
+use Rattle.cache_format.specs.declared.Options.{Options}
 use Rattle.quantized_cache.specs.Size.{sizeOf, sizeNumber}
 use Rattle.quantized_cache.specs.declared.Opened.{Opened}
-use Rattle.quantized_cache.specs.declared.State.{State}
+use Rattle.quantized_cache.specs.declared.CacheState.{CacheState}
 
 -- readings R2: "A cached row n starts at cache length - 4 - (rows - n) × (dimensions + 16)"
 abbrev pub rowStart : ℕ → ℕ → ℕ → ℕ → ℕ
@@ -49,27 +49,27 @@ contentRefusal levels metric rows dimensions cache =
 
 -- the number of the first test before the rows that fails, or 0
 unfoldable pub openNumber : List ℕ → ℕ → ℕ → List ℕ → List ℕ → List ℕ → Options → ℕ
-openNumber m expected room cache platform root o =
-    orElse (sizeNumber m expected room platform root o) (cacheHeadNumber cacheVersion (sizeOf m platform root) (identity platform root m) cache)
+openNumber m expected scratch cache platform root o =
+    orElse (sizeNumber m expected scratch platform root o) (cacheHeadNumber cacheVersion (sizeOf m platform root) (identity platform root m) cache)
 
 unfoldable pub openRefusal : List ℕ → ℕ → ℕ → List ℕ → List ℕ → List ℕ → Options → Refusal
-openRefusal m expected room cache platform root o =
-    refusedOr (openNumber m expected room cache platform root o) (contentRefusal baseLevels (metricAt m) (rowsOf m) (dimensionsOf m) cache)
+openRefusal m expected scratch cache platform root o =
+    refusedOr (openNumber m expected scratch cache platform root o) (contentRefusal baseLevels (metricAt m) (rowsOf m) (dimensionsOf m) cache)
 
 -- the state is the head and the cache's length (readings R2); "the state returned by a refused check .. is all zero" (R23)
-abbrev pub stateOf : List ℕ → List ℕ → State
+abbrev pub stateOf : List ℕ → List ℕ → CacheState
 stateOf m cache = record { head = headAt m; cache = length cache }
 
 -- what a search tests of a cache's length against the state: 21 where "the cache .. length differs" (document 01, What each place turns
 -- away), or where it is "under 4 + rows × (dimensions + 16)" (readings R3)
-unfoldable pub cacheLengthOk : State → ℕ → ℕ → ℕ → Bool
+unfoldable pub cacheLengthOk : CacheState → ℕ → ℕ → ℕ → Bool
 cacheLengthOk state rows dimensions size = eqb size (state .cache) && leb (rows * rowLength dimensions + 4) size
 
-abbrev pub zeroState : State
-zeroState = record { head = zeroHead; cache = 0 }
+abbrev pub zeroCacheState : CacheState
+zeroCacheState = record { head = zeroHead; cache = 0 }
 
 unfoldable pub openedBy : List ℕ → List ℕ → Refusal → Opened
-openedBy m cache refusal = record { refusal = refusal; state = unlessRefused refusal (stateOf m cache) zeroState }
+openedBy m cache refusal = record { refusal = refusal; state = unlessRefused refusal (stateOf m cache) zeroCacheState }
 
 abbrev pub opened : List ℕ → ℕ → ℕ → List ℕ → List ℕ → List ℕ → Options → Opened
-opened m expected room cache platform root o = openedBy m cache (openRefusal m expected room cache platform root o)
+opened m expected scratch cache platform root o = openedBy m cache (openRefusal m expected scratch cache platform root o)

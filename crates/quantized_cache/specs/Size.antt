@@ -8,9 +8,9 @@ use Rattle.config.specs.Refusal.{refused}
 use Rattle.format.specs.Order.{orElse}
 use Rattle.format.specs.Fields.{dimensionsOf, rowsOf}
 use Rattle.manifest.specs.Check.{manifestNumber}
-use Rattle.geometry.specs.Cache.{identityLength, cacheBetween, cacheSize}
-use Rattle.geometry.specs.Sizing.{sizingNumber}
-use Rattle.geometry.specs.declared.Options.{Options}
+use Rattle.cache_format.specs.Cache.{identityLength, cacheBetween, cacheSize}
+use Rattle.cache_format.specs.Sizing.{sizingNumber}
+use Rattle.cache_format.specs.declared.Options.{Options}
 use Rattle.quantized_cache.specs.declared.Sized.{Sized}
 
 -- sizing's number for a manifest, and the size
@@ -21,13 +21,13 @@ sizingOf m platform root o =
 abbrev pub sizeOf : List ℕ → List ℕ → List ℕ → ℕ
 sizeOf m platform root = cacheSize (identityLength (length platform) (length root) (length m)) (length cacheBetween) (rowsOf m) (dimensionsOf m)
 
--- the manifest's tests, then sizing's; `room` is the length of the scratch
+-- the manifest's tests, then sizing's; `scratch` is the length of the scratch slice
 unfoldable pub sizeNumber : List ℕ → ℕ → ℕ → List ℕ → List ℕ → Options → ℕ
-sizeNumber m expected room platform root o = orElse (manifestNumber m expected room) (sizingOf m platform root o)
+sizeNumber m expected scratch platform root o = orElse (manifestNumber m expected scratch) (sizingOf m platform root o)
 
 -- document 01: "A refusal returns its number and a place .. All counts are then 0"
 unfoldable pub sizedBy : List ℕ → List ℕ → List ℕ → ℕ → Sized
 sizedBy m platform root number = record { refusal = refused number 0; size = cond (eqb number 0) (sizeOf m platform root) 0 }
 
 abbrev pub sized : List ℕ → ℕ → ℕ → List ℕ → List ℕ → Options → Sized
-sized m expected room platform root o = sizedBy m platform root (sizeNumber m expected room platform root o)
+sized m expected scratch platform root o = sizedBy m platform root (sizeNumber m expected scratch platform root o)

@@ -6,14 +6,14 @@ ghost use Rattle.quantization.specs.Encoder.{Levels, baseLevels};
 ghost use Rattle.format.specs.Fields.{dimensionsOf, rowsOf, metricAt};
 ghost use Rattle.format.specs.Head.{headNumber};
 ghost use Rattle.manifest.specs.Check.{scratchAfter};
-ghost use Rattle.geometry.specs.Cache.{identity as identityOf};
-ghost use Rattle.geometry.specs.Open.{openNumber as headOpens};
+ghost use Rattle.cache_format.specs.Cache.{identity as identityOf};
+ghost use Rattle.cache_format.specs.Open.{cacheHeadNumber as headOpens};
 ghost use Rattle.quantized_cache.specs.Size.{sizingOf, sizeOf, sizeNumber, sized};
 ghost use Rattle.quantized_cache.specs.Open.{rowStart, RoomFor, badRow, contentRefusal, openNumber, cacheLengthOk, openedBy, opened};
+use cache_format::Options;
 use config::Metric;
 use config::Refusal;
 use format::Head;
-use geometry::Options;
 
 // A refusal, or the size of a library's cache.
 pub struct Sized {
@@ -22,7 +22,7 @@ pub struct Sized {
 }
 
 // What opening hands to a search: the manifest's head and the cache's length.
-pub struct State {
+pub struct CacheState {
     pub head: Head,
     pub cache: usize,
 }
@@ -30,7 +30,7 @@ pub struct State {
 // A refusal, or the state of an opened cache.
 pub struct Opened {
     pub refusal: Refusal,
-    pub state: State,
+    pub state: CacheState,
 }
 
 // ---- Sizing.
@@ -41,7 +41,7 @@ pub fn sizing(m: &[u8], platform: &[u8], root: &[u8], options: Options) -> u32
     ensures { λ r. ⌜ r ≡ sizingOf (now (m .entry)) (now (platform .entry)) (now (root .entry)) options ⌝ }
 {
     let layout = format::read_layout(m);
-    geometry::sizing_number(
+    cache_format::sizing_number(
         platform.len(),
         root.len(),
         options,
@@ -77,8 +77,8 @@ pub fn size_of(m: &[u8], platform: &[u8], root: &[u8], options: Options) -> usiz
     ensures { λ r. ⌜ r ≡ sizeOf (now (m .entry)) (now (platform .entry)) (now (root .entry)) ⌝ }
 {
     let layout = format::read_layout(m);
-    let identity = geometry::identity_length(platform.len(), root.len(), m.len());
-    geometry::cache_size(identity, 0, layout.rows, layout.dimensions)
+    let identity = cache_format::identity_length(platform.len(), root.len(), m.len());
+    cache_format::cache_size(identity, 0, layout.rows, layout.dimensions)
 }
 
 pub fn size(
@@ -116,7 +116,7 @@ pub fn rows_at(length: usize, rows: usize, dimensions: usize) -> usize
     requires { ⌜ (rows ≤ 1000000) × (dimensions ≤ 4096) × RoomFor length rows dimensions ⌝ }
     ensures { λ r. ⌜ r ≡ rowStart length rows dimensions 0 ⌝ }
 {
-    length - 4 - rows * geometry::row_length(dimensions)
+    length - 4 - rows * cache_format::row_length(dimensions)
 }
 
 // The lowest invalid row, or the row count.
@@ -124,7 +124,7 @@ fn bad_row(levels: u32, metric: Metric, rows: usize, dimensions: usize, cache: &
     requires { ⌜ Levels levels × (rows ≤ 1000000) × (dimensions ≤ 4096) × RoomFor (length (now cache)) rows dimensions ⌝ }
     ensures { λ r. ⌜ r ≡ badRow levels metric rows dimensions (now (cache .entry)) ⌝ }
 {
-    let length = geometry::row_length(dimensions);
+    let length = cache_format::row_length(dimensions);
     let mut at = rows_at(cache.len(), rows, dimensions);
     let mut row = 0;
     while row < rows {
@@ -173,7 +173,7 @@ fn head_number(m: &[u8], cache: &[u8], platform: &[u8], root: &[u8], options: Op
     ensures { λ r. ⌜ r ≡ headOpens 1 (sizeOf (now (m .entry)) (now (platform .entry)) (now (root .entry))) (identityOf (now (platform .entry)) (now (root .entry)) (now (m .entry))) (now (cache .entry)) ⌝ }
 {
     let size = size_of(m, platform, root, options);
-    geometry::open_number(cache, size, platform, root, m)
+    cache_format::cache_head_number(cache, size, platform, root, m)
 }
 
 // All that opening tests before the rows: the number of the first test that fails, or 0.
@@ -217,7 +217,7 @@ fn answer(m: &[u8], cache: &[u8], refusal: Refusal) -> Opened
     ensures { λ r. ⌜ r ≡ openedBy (now (m .entry)) (now (cache .entry)) refusal ⌝ }
 {
     if refusal.number == 0 {
-        let state = State {
+        let state = CacheState {
             head: format::read_head(m),
             cache: cache.len(),
         };
@@ -226,7 +226,7 @@ fn answer(m: &[u8], cache: &[u8], refusal: Refusal) -> Opened
             state: state,
         };
     }
-    let state = State {
+    let state = CacheState {
         head: format::zero_head(),
         cache: 0,
     };
@@ -269,10 +269,10 @@ pub fn open(
 }
 
 // What a search tests of a cache's length, against the state that opening returned.
-pub fn length_holds(state: State, rows: usize, dimensions: usize, cache: &[u8]) -> bool
+pub fn length_holds(state: CacheState, rows: usize, dimensions: usize, cache: &[u8]) -> bool
     requires { ⌜ (rows ≤ 1000000) × (dimensions ≤ 4096) ⌝ }
     ensures { λ r. ⌜ r ≡ cacheLengthOk state rows dimensions (length (now (cache .entry))) ⌝ }
 {
     let length = cache.len();
-    (length == state.cache) & (rows * geometry::row_length(dimensions) + 4 <= length)
+    (length == state.cache) & (rows * cache_format::row_length(dimensions) + 4 <= length)
 }

@@ -10,7 +10,7 @@ use lib.ListN.{length, getD, set, take, drop, length-set, length-take, length-ap
 use lib.Seq.{take-suc-set, take-all, take-length, take-nil, drop-set-lt}
 use borrow.Author.Tests.{lt-leb}
 use Rattle.rank.specs.Sort.{insert, sort, least}
-use Rattle.rank.specs.Heap.{HeapFrom, Placed, Built, Kept}
+use Rattle.rank.specs.Heap.{HeapFrom, Sifted, Built, BestKept}
 use Rattle.rank.proofs.Sort.{length-insert, length-sort, sort-snoc}
 use Rattle.rank.proofs.Least.{keep-less, keep-more, least-snoc}
 use Rattle.rank.proofs.Numbers.{leb-order}
@@ -25,7 +25,7 @@ room a n x h =
 past : (a b : List ℕ) (n : ℕ) → length a ≤ n → length b ≤ n → drop n b ≡ drop n a
 past a b n h k = drop-of-length-le b k ∙ sym (drop-of-length-le a h)
 
-pub stored : (a : List ℕ) (n x : ℕ) → n < length a → n + 1 ≢ length a → Kept a n x (set a n x) (n + 1)
+pub stored : (a : List ℕ) (n x : ℕ) → n < length a → n + 1 ≢ length a → BestKept a n x (set a n x) (n + 1)
 stored a n x h k = record {
   count = omega arith;
   kept = room a n x h;
@@ -34,7 +34,7 @@ stored a n x h k = record {
 }
 
 pub built : (a : List ℕ) (n x : ℕ) (b : List ℕ) → n < length a → n + 1 ≡ length a → length b ≡ length a
-    → Built (set a n x) b → Kept a n x b (n + 1)
+    → Built (set a n x) b → BestKept a n x b (n + 1)
 built a n x b h k m B = record {
   count = omega arith;
   kept = ap (sort leb) (take-all (n + 1) b (omega arith)) ∙ B .same
@@ -44,7 +44,7 @@ built a n x b h k m B = record {
 }
 
 pub replaced : (a : List ℕ) (n x : ℕ) (b : List ℕ) → n ≤ length a → length a ≤ n → 0 < length a → length b ≡ length a
-    → HeapFrom 0 a → x < getD a 0 0 → Placed a 0 x b → Kept a n x b (length a)
+    → HeapFrom 0 a → x < getD a 0 0 → Sifted a 0 x b → BestKept a n x b (length a)
 replaced [] n x b i j k m H l P = absurd (omega arith)
 replaced (y ∷ t) n x b i j k m H l P = record {
   count = omega arith;
@@ -55,7 +55,7 @@ replaced (y ∷ t) n x b i j k m H l P = record {
   rest = past (y ∷ t) b (length (y ∷ t)) (omega arith) (omega arith);
 }
 
-pub passed : (a : List ℕ) (n x : ℕ) → n ≤ length a → length a ≤ n → HeapFrom 0 a → (0 < length a → getD a 0 0 ≤ x) → Kept a n x a (length a)
+pub passed : (a : List ℕ) (n x : ℕ) → n ≤ length a → length a ≤ n → HeapFrom 0 a → (0 < length a → getD a 0 0 ≤ x) → BestKept a n x a (length a)
 passed a n x i j H l = record {
   count = omega arith;
   kept = ap (sort leb) (take-length a) ∙ sym (keep-more leb x a (all-top a x H l))
@@ -74,7 +74,7 @@ pub nothing : (a : List ℕ) → Holds [] a 0
 unfolding sort least
 nothing a = record { count = omega arith; kept = sym (take-nil (length a)); heap = λ e. record { at = λ p c l k i. absurd (omega arith) } }
 
-pub more : (xs a : List ℕ) (n x : ℕ) (b : List ℕ) (r : ℕ) → Holds xs a n → Kept a n x b r → length b ≡ length a → Holds (xs ++ x ∷ []) b r
+pub more : (xs a : List ℕ) (n x : ℕ) (b : List ℕ) (r : ℕ) → Holds xs a n → BestKept a n x b r → length b ≡ length a → Holds (xs ++ x ∷ []) b r
 unfolding least
 more xs a n x b r H K l = record {
   count = omega (arith, H .count, K .count, length-append xs (x ∷ []));

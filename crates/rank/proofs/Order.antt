@@ -8,8 +8,8 @@ use native.Mathlib.Omega.{arith}
 use lib.Dec.{T, leb, ltb}
 use borrow.Author.Tests.{ltb-true, ltb-false, le-leb, lt-leb}
 use lib.Ieee.{Float, binary64, fits, isNan}
-use Rattle.float.specs.Order.{totalBelow}
-use Rattle.float.proofs.Keys.{keyed, key-below}
+use Rattle.float.specs.Order.{totalBelow, keyed}
+use Rattle.float.proofs.Keys.{key-below}
 use Rattle.float.proofs.Total.{below-one-way, not-below-trans}
 use Rattle.le.proofs.Chain.{by}
 use Rattle.rank.specs.Sort.{_∈_, Pairwise, TotalOrder, least}

@@ -11,7 +11,7 @@ use Rattle.rank.proofs.Sort.{sort-perm, perm-sort, sort-sort, from-sort
 use Rattle.rank.proofs.Least.{from-least}
 use Rattle.rank.proofs.Numbers.{leb-order}
 use Rattle.rank.proofs.ByKey.{order}
-use Rattle.rank.proofs.Pairs.{keyed, unpack-pairs, map-pairs, pairs-rows, sort-pack, least-pack}
+use Rattle.rank.proofs.Pairs.{packed, unpack-pairs, map-pairs, pairs-rows, sort-pack, least-pack}
 
 -- keys and rows that, sorted, are ls and cs: the rows alone, sorted, are cs, sorted
 pub rows-alone : (ks rs ls cs : List ℕ) → length ks ≡ length rs → length ls ≡ length cs → ((r : ℕ) → r ∈ rs → r < 2 ^ 64)
@@ -24,7 +24,7 @@ rows-alone ks rs ls cs h g i j e =
 module _ (key : ℕ → ℕ) (rows : List ℕ) (fit : (r : ℕ) → r ∈ rows → r < 2 ^ 64) where
   -- what a heap keeps of rows with their keys: the k least rows, in the order of the rows
   pub rows-by-row : (k : ℕ) (ks rs : List ℕ) → length ks ≡ length rs → ((r : ℕ) → r ∈ rs → r < 2 ^ 64)
-      → sort leb (pairs ks rs) ≡ least leb k (map (keyed key) rows) → sort leb rs ≡ sort leb (least (byKey key) k rows)
+      → sort leb (pairs ks rs) ≡ least leb k (map (packed key) rows) → sort leb rs ≡ sort leb (least (byKey key) k rows)
   rows-by-row k ks rs h i e =
       let C : List ℕ = least (byKey key) k rows in
       rows-alone ks rs (map key C) C h (length-map C key) i (λ r m. fit r (from-least (byKey key) r k rows m))

@@ -11,21 +11,21 @@ use Rattle.rank.specs.Sort.{_∈_, sort, least}
 use Rattle.rank.specs.Limit.{byKey}
 use Rattle.rank.specs.Rows.{passing}
 use Rattle.rank.specs.Pairs.{pack, pairs}
-use Rattle.rank.specs.Heap.{Kept}
+use Rattle.rank.specs.Heap.{BestKept}
 use Rattle.rank.proofs.Rows.{passing-more, passing-skip, passing-pass}
-use Rattle.rank.proofs.Pairs.{keyed, least-rows}
+use Rattle.rank.proofs.Pairs.{packed, least-rows}
 use Rattle.rank.proofs.Bounded.{Holds}
 use Rattle.rank.proofs.Two.{more2, finish2}
 
 module _ (ok : ℕ → Bool) (key : ℕ → ℕ) (ks rs : List ℕ) (same : length ks ≡ length rs) (i n : ℕ)
-    (H : Holds (map (keyed key) (passing ok i)) (pairs ks rs) n) where
+    (H : Holds (map (packed key) (passing ok i)) (pairs ks rs) n) where
   -- row i passes and is kept, or does not pass
-  pub keep-row : ok i ≡ true → (b c : List ℕ) (m : ℕ) → Kept (pairs ks rs) n (pack (key i) i) (pairs b c) m → length b ≡ length ks
-      → length c ≡ length rs → (m ≤ length b) × Holds (map (keyed key) (passing ok (i + 1))) (pairs b c) m
+  pub keep-row : ok i ≡ true → (b c : List ℕ) (m : ℕ) → BestKept (pairs ks rs) n (pack (key i) i) (pairs b c) m → length b ≡ length ks
+      → length c ≡ length rs → (m ≤ length b) × Holds (map (packed key) (passing ok (i + 1))) (pairs b c) m
   keep-row e b c m K lb lc =
-      rw (passing-more ok i e, map-append) (more2 ks rs same (map (keyed key) (passing ok i)) n (key i) i b c m H K lb lc)
+      rw (passing-more ok i e, map-append) (more2 ks rs same (map (packed key) (passing ok i)) n (key i) i b c m H K lb lc)
 
-  pub skip-row : ok i ≡ false → Holds (map (keyed key) (passing ok (i + 1))) (pairs ks rs) n
+  pub skip-row : ok i ≡ false → Holds (map (packed key) (passing ok (i + 1))) (pairs ks rs) n
   skip-row e = rw (passing-skip ok i e) H
 
   -- the end: the keys and rows that are kept are sorted to e and f
@@ -34,4 +34,4 @@ module _ (ok : ℕ → Bool) (key : ℕ → ℕ) (ks rs : List ℕ) (same : leng
       → (e ≡ map key (least (byKey key) (length ks) (passing ok i))) × (f ≡ least (byKey key) (length ks) (passing ok i))
   sorted-rows l e f h b s =
       least-rows key (passing ok i) (λ r m. omega (arith, passing-pass ok i r m)) (length ks) e f h b
-      (finish2 ks rs same (map (keyed key) (passing ok i)) e f n H s)
+      (finish2 ks rs same (map (packed key) (passing ok i)) e f n H s)

@@ -5,7 +5,7 @@ ghost use mathlib.Core.List.{[]};
 ghost use Prim.Native.Nat.{_≤_, min};
 ghost use lib.Dec.{leb};
 ghost use Rattle.rank.specs.Sort.{Ascending};
-ghost use Rattle.format.specs.Layout.{Placed};
+ghost use Rattle.format.specs.Layout.{LaidOut};
 ghost use Rattle.entries.specs.Plan.{rowsOk};
 ghost use Rattle.search_spec.specs.Lent.{answersOf, workOf, given, callOf};
 ghost use Rattle.search_spec.specs.Tests.{queryOk, roomOf};
@@ -39,7 +39,7 @@ pub fn ranked(
     places: &mut [u64],
     lengths: &mut [u32],
 ) -> Answered
-    requires { ⌜ Placed (now m) layout × (rowsOk (now m) ≡ true)
+    requires { ⌜ LaidOut (now m) layout × (rowsOk (now m) ≡ true)
         × (seen kept (now m) (now cache) (now codes) (now scales) (now norms) .lengthOk ≡ true) × (k ≡ 0 → ⊥) × (k ≤ limit) ⌝ }
     requires { ⌜ Ascending leb (now sorted)
         × (queryOk (now m) (now query) ≡ true)

@@ -13,13 +13,13 @@ use Rattle.le.proofs.Pastes.{paste-first, set-next}
 use Rattle.rank.specs.Rows.{passing}
 use Rattle.rank.proofs.Rows.{passing-more, count-all}
 use Rattle.config.specs.Refusal.{none, refused, unlessRefused}
-use Rattle.records.specs.Records.{roomOk, handOutRefusal, recordAt, listedUpto, handedOut, planOf}
+use Rattle.records.specs.Records.{recordsRoomOk, handOutRefusal, placeRecord, listedUpto, handedOut, planOf}
 use Rattle.records.specs.declared.Record.{Record}
 use Rattle.records.specs.declared.Plan.{Plan}
 
 module _ (ids : List ℕ) (distances : List Float) (rows : List ℕ) where
   abbrev at : ℕ → Record
-  at = recordAt ids distances rows
+  at = placeRecord ids distances rows
 
   abbrev listed : ℕ → List Record
   listed = listedUpto ids distances rows
@@ -53,9 +53,9 @@ module _ (ids : List ℕ) (distances : List Float) (rows : List ℕ) where
     pub ends : (n : ℕ) (p : Plan) → p ≡ planOf n (length ids) (length distances) (length rows) (length out)
         → (p .refusal ≡ handOutRefusal ids distances rows n (length out)) × (upto (p .count) ≡ handedOut ids distances rows n out)
     ends n p e =
-        (ap (λ (q : Plan). q .refusal) e, ap (λ (q : Plan). upto (q .count)) e ∙ by-room (roomOk n (length ids) (length distances) (length rows) (length out)) n)
+        (ap (λ (q : Plan). q .refusal) e, ap (λ (q : Plan). upto (q .count)) e ∙ by-room (recordsRoomOk n (length ids) (length distances) (length rows) (length out)) n)
 
-holds : (n a b c d : ℕ) → T (roomOk n a b c d) → (n ≤ a) × (n ≤ b) × (n ≤ c) × (n ≤ d)
+holds : (n a b c d : ℕ) → T (recordsRoomOk n a b c d) → (n ≤ a) × (n ≤ b) × (n ≤ c) × (n ≤ d)
 holds n a b c d t =
     let r = and-yes (leb n a && leb n b && leb n c) (leb n d) t in
     let q = and-yes (leb n a && leb n b) (leb n c) (r .0) in
@@ -68,5 +68,5 @@ at-most false n m h = zero-le
 -- the plan's count is within each of the four slices
 pub counts : (n a b c d : ℕ) → let count = planOf n a b c d .count in (count ≤ a) × (count ≤ b) × (count ≤ c) × (count ≤ d)
 counts n a b c d =
-    let t = roomOk n a b c d in
+    let t = recordsRoomOk n a b c d in
     let h = holds n a b c d in (at-most t n a (λ e. h e .0), at-most t n b (λ e. h e .1), at-most t n c (λ e. h e .2), at-most t n d (λ e. h e .3))

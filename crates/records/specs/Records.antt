@@ -14,22 +14,22 @@ use Rattle.records.specs.declared.Record.{Record}
 use Rattle.records.specs.declared.Plan.{Plan}
 
 -- of a count and the lengths of ids, distances, rows and the slice of records
-abbrev pub roomOk : ℕ → ℕ → ℕ → ℕ → ℕ → Bool
-roomOk count ids distances rows room = leb count ids && leb count distances && leb count rows && leb count room
+abbrev pub recordsRoomOk : ℕ → ℕ → ℕ → ℕ → ℕ → Bool
+recordsRoomOk count ids distances rows room = leb count ids && leb count distances && leb count rows && leb count room
 
 abbrev pub roomRefusal : ℕ → ℕ → ℕ → ℕ → ℕ → Refusal
-roomRefusal count ids distances rows room = cond (roomOk count ids distances rows room) none (refused 20 0)
+roomRefusal count ids distances rows room = cond (recordsRoomOk count ids distances rows room) none (refused 20 0)
 
 -- of ids, distances and rows, and the length of the slice of records
 abbrev pub handOutRefusal : List ℕ → List Float → List ℕ → ℕ → ℕ → Refusal
 handOutRefusal ids distances rows count room = roomRefusal count (length ids) (length distances) (length rows) room
 
-abbrev pub recordAt : List ℕ → List Float → List ℕ → ℕ → Record
-recordAt ids distances rows i = record { distance = getD distances i nan; id = getD ids i 0; row = getD rows i 0 }
+abbrev pub placeRecord : List ℕ → List Float → List ℕ → ℕ → Record
+placeRecord ids distances rows i = record { distance = getD distances i nan; id = getD ids i 0; row = getD rows i 0 }
 
 -- the first n of them
 abbrev pub listedUpto : List ℕ → List Float → List ℕ → ℕ → List Record
-listedUpto ids distances rows n = map (recordAt ids distances rows) (passing (λ i. true) n)
+listedUpto ids distances rows n = map (placeRecord ids distances rows) (passing (λ i. true) n)
 
 -- "Records past the count stay", and all of them where it is refused
 abbrev pub handedOut : List ℕ → List Float → List ℕ → ℕ → List Record → List Record
@@ -38,4 +38,4 @@ handedOut ids distances rows count out =
 
 -- how many are handed out, and the refusal: what `records` goes by
 abbrev pub planOf : ℕ → ℕ → ℕ → ℕ → ℕ → Plan
-planOf count ids distances rows room = record { count = cond (roomOk count ids distances rows room) count 0; refusal = roomRefusal count ids distances rows room }
+planOf count ids distances rows room = record { count = cond (recordsRoomOk count ids distances rows room) count 0; refusal = roomRefusal count ids distances rows room }

@@ -2,7 +2,7 @@
 ghost use mathlib.Core.Path.{_≡_};
 ghost use Prim.Native.Nat.{_<_};
 ghost use lib.ListN.{length};
-ghost use Rattle.records.specs.Records.{roomOk, recordAt, planOf, handOutRefusal, handedOut};
+ghost use Rattle.records.specs.Records.{recordsRoomOk, placeRecord, planOf, handOutRefusal, handedOut};
 use config::Refusal;
 
 pub struct Record {
@@ -18,7 +18,7 @@ struct Plan {
 }
 
 fn room_holds(count: usize, ids: usize, distances: usize, rows: usize, out: usize) -> bool
-    ensures { λ r. ⌜ r ≡ roomOk count ids distances rows out ⌝ }
+    ensures { λ r. ⌜ r ≡ recordsRoomOk count ids distances rows out ⌝ }
 {
     (count <= ids) & (count <= distances) & (count <= rows) & (count <= out)
 }
@@ -48,7 +48,7 @@ fn planned(count: usize, ids: usize, distances: usize, rows: usize, out: usize) 
 // The record of one place of an answer.
 fn record_at(ids: &[u64], distances: &[f64], rows: &[u64], i: usize) -> Record
     requires { ⌜ (i < length (now ids)) × (i < length (now distances)) × (i < length (now rows)) ⌝ }
-    ensures { λ r. ⌜ r ≡ recordAt (now (ids .entry)) (now (distances .entry)) (now (rows .entry)) i ⌝ }
+    ensures { λ r. ⌜ r ≡ placeRecord (now (ids .entry)) (now (distances .entry)) (now (rows .entry)) i ⌝ }
 {
     Record {
         distance: distances[i],

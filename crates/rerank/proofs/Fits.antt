@@ -4,7 +4,7 @@ use mathlib.Core.List.{List, [], _∷_}
 use lib.Dec.{T}
 use lib.Ieee.{Float, binary64, fits, add, sub, mul, lt}
 use lib.Ieee.Fits.{neg-fits, cond-fits, add-fits, sub-fits}
-use Rattle.float.specs.Values.{zero, one, two}
+use Rattle.float.specs.Values.{plusZero, one, two}
 use Rattle.float.specs.Hold.{clamp}
 use Rattle.config.specs.declared.Metric.{Metric}
 use Rattle.config.specs.declared.Metric.the-variants.{SquaredL2, Cosine, InnerProduct}
@@ -23,5 +23,5 @@ original-fits SquaredL2 q v = sum-fits (λ x y. mul binary64 (sub binary64 x y) 
 original-fits Cosine q v =
     let y = mul binary64 (mul binary64 (dot q v) (inverseNorm q)) (inverseNorm v) in
     let x = sub binary64 one y in
-    cond-fits binary64 (lt x zero) zero (cond (lt two x) two x) (unfold fits in tt) (cond-fits binary64 (lt two x) two x (unfold fits in tt) (sub-fits binary64 one y))
+    cond-fits binary64 (lt x plusZero) plusZero (cond (lt two x) two x) (unfold fits in tt) (cond-fits binary64 (lt two x) two x (unfold fits in tt) (sub-fits binary64 one y))
 original-fits InnerProduct q v = neg-fits binary64 (dot q v) (sum-fits (mul binary64) start q v (unfold fits in tt))

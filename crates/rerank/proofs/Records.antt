@@ -9,6 +9,7 @@ use borrow.Author.Tests.{eqb-true, eqb-false}
 use lib.Ieee.{Float, nan, isNan}
 use lib.Ieee.Scale.{finite}
 use lib.ListN.{getD}
+use Rattle.float.specs.Order.{keyed}
 use Rattle.le.proofs.Chain.{by}
 use Rattle.float.proofs.BitLaws.{finite-number}
 use Rattle.float.proofs.Quads.{all-four}
@@ -19,7 +20,7 @@ use Rattle.config.specs.declared.Refusal.{Refusal}
 use Rattle.config.proofs.Refusals.{not-zero, held-number}
 use Rattle.format.specs.Fields.{metricAt, dimensionsOf}
 use Rattle.format.specs.Head.{lengthsOk}
-use Rattle.format.specs.Layout.{Placed}
+use Rattle.format.specs.Layout.{LaidOut}
 use Rattle.format.specs.declared.Layout.{Layout}
 use Rattle.entries.specs.Plan.{entryOk}
 use Rattle.entries.proofs.Entries.{lengths-of, entry-keeps}
@@ -28,7 +29,7 @@ use Rattle.segment.proofs.Records.{good}
 use Rattle.math.specs.Distance.{Readable, original}
 use Rattle.search_spec.specs.Lists.{originalAt}
 use Rattle.search_spec.specs.Scan.{recordRefusal}
-use Rattle.rerank.specs.Rerank.{Located, keyed, allFour, allFinite, keyAt, measureOf, measureAt}
+use Rattle.rerank.specs.Rerank.{Located, allFour, allFinite, keyAt, measureOf, measureAt}
 use Rattle.rerank.specs.declared.Measure.the-variants.{Key, Refused}
 
 pub number : (x : Float) → finite x ≡ true → T (not (isNan x))
@@ -36,7 +37,7 @@ number x h = finite-number x (rw h tt)
 
 -- what the functions ask that read an entry or a record
 pub asked : {m a : List ℕ} {l : Layout} {k : Metric} {r : ℕ} → Located m l k a → r < l .rows
-    → Placed m l × (k ≡ metricAt m) × (lengthsOk m ≡ true) × (a ≡ startsOf m) × (r < l .rows) × (entryOk m r ≡ true)
+    → LaidOut m l × (k ≡ metricAt m) × (lengthsOk m ≡ true) × (a ≡ startsOf m) × (r < l .rows) × (entryOk m r ≡ true)
 asked {m} {r = r} L h = (L .placed, L .metric, lengths-of m (L .rows), L .starts, h, entry-keeps m r (L .rows) (rw (L .placed .rows) at h))
 
 -- the coordinates of the record of row r, as they are read: n of them, at a place

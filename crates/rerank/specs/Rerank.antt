@@ -1,3 +1,4 @@
+-- Between functions: what they promise one another. No contract of an entry and no theorem rests on this file.
 -- The candidates by original distance (document 01, What each place turns away: "and last, by rising row of the candidates, 23 then 24";
 -- The report: "the list is the min(k, eligible) least of those by original order", "`original_distance_computations` equals the count of
 -- records measured by the definition").
@@ -5,10 +6,10 @@ use mathlib.Core.Path.{_≡_}
 use mathlib.Core.Bool.{Bool, true, false, _&&_}
 use mathlib.Core.List.{List, [], _∷_, map}
 use Prim.Native.Nat.{ℕ, _+_, _≤_, _<_}
-use lib.Ieee.{Float, nan, binary64, toBits}
+use lib.Ieee.{Float, nan}
 use lib.Ieee.Scale.{finite}
 use lib.ListN.{length, getD, set, take}
-use Rattle.float.specs.Order.{keyOf}
+use Rattle.float.specs.Order.{keyed}
 use Rattle.rank.specs.Sort.{sort}
 use Rattle.config.specs.Metric.{isCosine}
 use Rattle.config.specs.Refusal.{unlessRefused}
@@ -16,7 +17,7 @@ use Rattle.config.specs.declared.Metric.{Metric}
 use Rattle.config.specs.declared.Refusal.{Refusal}
 use Rattle.format.specs.Order.{firstRefusal}
 use Rattle.format.specs.Fields.{metricAt, dimensionsOf}
-use Rattle.format.specs.Layout.{Placed}
+use Rattle.format.specs.Layout.{LaidOut}
 use Rattle.format.specs.declared.Layout.{Layout}
 use Rattle.entries.specs.Plan.{rowsOk}
 use Rattle.segment.specs.Record.{startsOf}
@@ -31,7 +32,7 @@ use Rattle.rerank.specs.declared.Reranked.{Reranked}
 
 -- where the records of the manifest m begin, and that its entries pass their tests
 pub record Located (m : List ℕ) (l : Layout) (k : Metric) (a : List ℕ) : Type 0 where
-  pub placed : Placed m l
+  pub placed : LaidOut m l
   pub metric : k ≡ metricAt m
   pub rows : rowsOk m ≡ true
   pub starts : a ≡ startsOf m
@@ -40,10 +41,6 @@ pub record Located (m : List ℕ) (l : Layout) (k : Metric) (a : List ℕ) : Typ
 pub record Asked (m : List ℕ) (k : Metric) (q : List Float) (i : Float) : Type 0 where
   pub dimensions : length q ≡ dimensionsOf m
   pub inverse : isCosine k ≡ true → i ≡ inverseNorm q
-
--- the order key of a distance
-abbrev pub keyed : Float → ℕ
-keyed x = keyOf (toBits binary64 x)
 
 -- ---- four of some rows, from place i on: whether all pass a test, whether four distances are finite, and the keys of four stored
 abbrev pub allFour : (ℕ → Bool) → List ℕ → ℕ → Bool

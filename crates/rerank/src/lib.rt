@@ -110,7 +110,8 @@ fn distances_four(
     rs: &[u64],
     i: usize,
 ) -> [f64; 4]
-    requires { ⌜ Located (now m) layout metric (now starts) × Asked (now m) metric (now q) «q_inverse» × RowsBelow (layout .rows) (now rs) × (i + 4 ≤ length (now rs)) × (allFour (recordOk (now m) (now s)) (now rs) i ≡ true) ⌝ }
+    requires { ⌜ Located (now m) layout metric (now starts) × Asked (now m) metric (now q) «q_inverse» × RowsBelow (layout .rows) (now rs)
+        × (i + 4 ≤ length (now rs)) × (allFour (recordOk (now m) (now s)) (now rs) i ≡ true) ⌝ }
     ensures { λ r. ⌜ r ≡ originals (now (m .entry)) (now (s .entry)) (now (q .entry)) (now (rs .entry)) i ⌝ }
 {
     let a = coordinates_at(m, layout, metric, starts, rs[i] as usize);
@@ -153,7 +154,8 @@ fn measure_four(
     rs: &[u64],
     i: usize,
 ) -> bool
-    requires { ⌜ Located (now m) layout metric (now starts) × Asked (now m) metric (now q) «q_inverse» × RowsBelow (layout .rows) (now rs) × (length (now ks) ≡ length (now rs)) × (i ≤ length (now rs)) × KeysTo (now m) (now s) (now q) (now rs) i (now ks) ⌝ }
+    requires { ⌜ Located (now m) layout metric (now starts) × Asked (now m) metric (now q) «q_inverse» × RowsBelow (layout .rows) (now rs)
+        × (length (now ks) ≡ length (now rs)) × (i ≤ length (now rs)) × KeysTo (now m) (now s) (now q) (now rs) i (now ks) ⌝ }
     ensures { λ r. ⌜ FourIs (now (m .entry)) (now (s .entry)) (now (q .entry)) (now (rs .entry)) i r (now (ks .exit)) ⌝ }
 {
     if rs.len() - i < 4 {
@@ -184,7 +186,8 @@ fn measure_rows(
     ks: &mut [u64],
     rs: &[u64],
 ) -> Reranked
-    requires { ⌜ Located (now m) layout metric (now starts) × Asked (now m) metric (now q) «q_inverse» × RowsBelow (layout .rows) (now rs) × (length (now ks) ≡ length (now rs)) ⌝ }
+    requires { ⌜ Located (now m) layout metric (now starts) × Asked (now m) metric (now q) «q_inverse» × RowsBelow (layout .rows) (now rs)
+        × (length (now ks) ≡ length (now rs)) ⌝ }
     ensures { λ r. ⌜ MeasureIs (now (m .entry)) (now (s .entry)) (now (q .entry)) (now (rs .entry)) r (now (ks .exit)) ⌝ }
 {
     let mut measured = 0;
@@ -231,7 +234,8 @@ pub fn rerank(
     ks: &mut [u64],
     rs: &mut [u64],
 ) -> Reranked
-    requires { ⌜ Located (now m) layout metric (now starts) × Asked (now m) metric (now q) «q_inverse» × RowsBelow (layout .rows) (now rs) × (length (now ks) ≡ length (now rs)) ⌝ }
+    requires { ⌜ Located (now m) layout metric (now starts) × Asked (now m) metric (now q) «q_inverse» × RowsBelow (layout .rows) (now rs)
+        × (length (now ks) ≡ length (now rs)) ⌝ }
     ensures { λ r. ⌜ ((candidates : List ℕ) → sort leb (now (rs .entry)) ≡ sort leb candidates → RerankIs (now (m .entry)) (now (s .entry)) (now (q .entry)) candidates r (now (ks .exit)) (now (rs .exit))) ⌝ }
 {
     rank::sort_numbers(rs);

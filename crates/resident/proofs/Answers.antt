@@ -12,15 +12,15 @@ use Rattle.config.specs.declared.Refusal.{Refusal}
 use Rattle.format.specs.Fields.{dimensionsOf, rowsOf}
 use Rattle.format.specs.declared.Head.{Head}
 use Rattle.format.proofs.Heads.{both}
-use Rattle.geometry.specs.Sizing.{codesOk}
+use Rattle.cache_format.specs.Sizing.{codesOk}
 use Rattle.manifest.specs.Check.{manifestNumber}
-use Rattle.resident.specs.Build.{roomOk, roomNumber, plannedRefusal, buildRefusal, answered}
-use Rattle.rows.specs.Rows.{badRow, recordsRefusal}
-use Rattle.rows.proofs.Written.{none-bad, records-plain}
+use Rattle.resident.specs.Build.{residentRoomOk, residentRoomNumber, plannedRefusal, buildRefusal, residentAnswer}
+use Rattle.encoded_rows.specs.Rows.{lowestBad, badRecordRefusal}
+use Rattle.encoded_rows.proofs.Written.{none-bad, records-plain}
 
 -- ---- a refusal's answer has nothing of the head
-pub answered-refused : (h k : Head) (f : Refusal) (codes scales norms : ℕ) → (f .number ≡ 0 → ⊥) → answered h f codes scales norms ≡ answered k f codes scales norms
-unfolding answered
+pub answered-refused : (h k : Head) (f : Refusal) (codes scales norms : ℕ) → (f .number ≡ 0 → ⊥) → residentAnswer h f codes scales norms ≡ residentAnswer k f codes scales norms
+unfolding residentAnswer
 answered-refused h k f codes scales norms n = rw (ne-eqb (f .number) 0 n)
 
 -- ---- the manifest's number, then the plan's refusal
@@ -34,28 +34,28 @@ module _ (m : List ℕ) (expected room : ℕ) (s : List ℕ) (codes scales norms
   refused-next e = sym (goes-on (manifestNumber m expected room) (plannedRefusal m s codes scales norms) e)
 
 -- ---- nothing is refused
-pub room-is : (rows dimensions codes scales norms : ℕ) → roomOk rows dimensions codes scales norms ≡ true → (rows * dimensions ≤ codes) × (rows ≤ scales) × (rows ≤ norms)
+pub room-is : (rows dimensions codes scales norms : ℕ) → residentRoomOk rows dimensions codes scales norms ≡ true → (rows * dimensions ≤ codes) × (rows ≤ scales) × (rows ≤ norms)
 room-is rows dimensions codes scales norms h =
     let b = both {b = leb rows norms} h in
     let d = both {a = leb (rows * dimensions) codes} {b = leb rows scales} (b .0) in
     (leb-true (rows * dimensions) codes (d .0), leb-true rows scales (d .1), leb-true rows norms (b .1))
 
-room-held : (rows dimensions codes scales norms : ℕ) → roomNumber rows dimensions codes scales norms ≡ 0 → roomOk rows dimensions codes scales norms ≡ true
-unfolding roomNumber
+room-held : (rows dimensions codes scales norms : ℕ) → residentRoomNumber rows dimensions codes scales norms ≡ 0 → residentRoomOk rows dimensions codes scales norms ≡ true
+unfolding residentRoomNumber
 room-held rows dimensions codes scales norms h =
     let a = held (codesOk rows dimensions) not-zero h in
-    held (roomOk rows dimensions codes scales norms) not-zero (a .1) .0
+    held (residentRoomOk rows dimensions codes scales norms) not-zero (a .1) .0
 
 pub planned-none : (m s : List ℕ) (codes scales norms : ℕ) → plannedRefusal m s codes scales norms .number ≡ 0
-    → (badRow m s ≡ rowsOf m) × (roomOk (rowsOf m) (dimensionsOf m) codes scales norms ≡ true)
+    → (lowestBad m s ≡ rowsOf m) × (residentRoomOk (rowsOf m) (dimensionsOf m) codes scales norms ≡ true)
 unfolding plannedRefusal
 planned-none m s codes scales norms h =
-    let n = none-refused (roomNumber (rowsOf m) (dimensionsOf m) codes scales norms) (recordsRefusal m s) h in
+    let n = none-refused (residentRoomNumber (rowsOf m) (dimensionsOf m) codes scales norms) (badRecordRefusal m s) h in
     (none-bad m s (n .1), room-held (rowsOf m) (dimensionsOf m) codes scales norms (n .0))
 
 -- number 0 is no refusal
 pub built-none : (m : List ℕ) (expected room : ℕ) (s : List ℕ) (codes scales norms : ℕ) → Plain (buildRefusal m expected room s codes scales norms)
 unfolding buildRefusal plannedRefusal
 built-none m expected room s codes scales norms =
-    let n = roomNumber (rowsOf m) (dimensionsOf m) codes scales norms in
-    plain-or (manifestNumber m expected room) (refusedOr n (recordsRefusal m s)) (plain-or n (recordsRefusal m s) (records-plain m s))
+    let n = residentRoomNumber (rowsOf m) (dimensionsOf m) codes scales norms in
+    plain-or (manifestNumber m expected room) (refusedOr n (badRecordRefusal m s)) (plain-or n (badRecordRefusal m s) (records-plain m s))

@@ -13,18 +13,18 @@ use mir.Val.{toZ, ofZ}
 use mir.Facts.{toZ-ofZ}
 use Rattle.config.specs.Vector.{finites, floatsAt}
 use Rattle.config.proofs.Vectors.{length-floats}
-use Rattle.format.specs.Layout.{Placed}
+use Rattle.format.specs.Layout.{LaidOut}
 use Rattle.format.specs.declared.Layout.{Layout}
 use Rattle.format.specs.Fields.{dimensionsOf, rowsOf}
 use Rattle.segment.specs.Record.{recordAt}
 use Rattle.quantization.specs.Encoder.{Levels, encode, midpointsOf}
 use Rattle.quantization.proofs.Encoded.{norm-fits, formula}
-use Rattle.rows.proofs.Joined.{part-ends}
-use Rattle.rows.specs.Rows.{rowOf}
+use Rattle.le.proofs.Joined.{part-ends}
+use Rattle.encoded_rows.specs.Rows.{rowOf}
 use Rattle.segment.proofs.Records.{Good}
 
 -- ---- where a row's codes lie
-pub room : {m : List ℕ} {l : Layout} → Placed m l → (n row : ℕ) → row < l .rows → rowsOf m * dimensionsOf m ≤ n
+pub room : {m : List ℕ} {l : Layout} → LaidOut m l → (n row : ℕ) → row < l .rows → rowsOf m * dimensionsOf m ≤ n
     → (row * l .dimensions + l .dimensions ≤ n) × (row * l .dimensions + l .dimensions ≤ 1000000 * 4096)
 room {m} {l} p n row h w =
     let a : row * l .dimensions + l .dimensions ≤ rowsOf m * dimensionsOf m = rw (p .dimensions) (part-ends row (dimensionsOf m) (rowsOf m) (omega (arith, h, p .rows))) in

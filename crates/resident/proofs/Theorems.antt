@@ -24,17 +24,18 @@ use Rattle.format.specs.Fields.{dimensionsOf, rowsOf, metricAt}
 use Rattle.format.specs.Head.{headAt}
 use Rattle.format.specs.Same.{sameHead}
 use Rattle.format.proofs.Same.{Unchanged}
-use Rattle.geometry.specs.Sizing.{codesOk}
+use Rattle.cache_format.specs.Sizing.{codesOk}
 use Rattle.manifest.specs.Check.{manifestNumber}
 use Rattle.manifest.proofs.Passed.{other-room, manifest-not-5}
 use Rattle.manifest.proofs.Heads.{accepted-head}
 use Rattle.segment.specs.Check.{libraryRefusal}
 use Rattle.segment.proofs.Library.{library-accepted, accepted-number}
-use Rattle.rows.specs.Rows.{rowOf, joined, badRow, recordsRefusal}
-use Rattle.rows.proofs.Written.{all-good, own-codes, rows-valid}
-use Rattle.rows.proofs.Joined.{part-at, element-at, length-stored}
-use Rattle.resident.specs.Build.{roomOk, roomNumber, plannedRefusal, buildRefusal, zeroState, answered, builtBy, codesUpto, scalesUpto, normsUpto, codesAfter, scalesAfter, normsAfter, residentAt, lengthsOk}
-use Rattle.resident.specs.declared.State.{State}
+use Rattle.le.specs.Le.{joined}
+use Rattle.encoded_rows.specs.Rows.{rowOf, lowestBad, badRecordRefusal}
+use Rattle.encoded_rows.proofs.Written.{all-good, own-codes, rows-valid}
+use Rattle.le.proofs.Joined.{part-at, element-at, length-stored}
+use Rattle.resident.specs.Build.{residentRoomOk, residentRoomNumber, plannedRefusal, buildRefusal, zeroResidentState, residentAnswer, builtBy, codesUpto, scalesUpto, normsUpto, codesAfter, scalesAfter, normsAfter, residentAt, residentLengthsOk}
+use Rattle.resident.specs.declared.ResidentState.{ResidentState}
 use Rattle.resident.proofs.Answers.{refused-next, room-is, planned-none}
 
 -- ---- each row where it belongs
@@ -63,7 +64,7 @@ module _ (levels : ℕ) (mids : List Float) (m s : List ℕ) where
         rw (is-done f (codesUpto levels mids m s n codes) codes h, is-done f (scalesUpto levels mids m s n scales) scales h, is-done f (normsUpto levels mids m s n norms) norms h)
         (row-stands codes scales norms n r l)
 
-    pub built-lengths : roomOk (rowsOf m) (dimensionsOf m) (length codes) (length scales) (length norms) ≡ true
+    pub built-lengths : residentRoomOk (rowsOf m) (dimensionsOf m) (length codes) (length scales) (length norms) ≡ true
         → (length (codesAfter levels mids m s f codes) ≡ length codes) × (length (scalesAfter levels mids m s f scales) ≡ length scales)
         × (length (normsAfter levels mids m s f norms) ≡ length norms)
     built-lengths w =
@@ -81,7 +82,7 @@ module _ (m : List ℕ) (expected room : ℕ) (s : List ℕ) (codes : List ℤ) 
   abbrev refusal : Refusal
   refusal = buildRefusal m expected room s (length codes) (length scales) (length norms)
 
-  planned : (badRow m s ≡ rowsOf m) × (roomOk (rowsOf m) (dimensionsOf m) (length codes) (length scales) (length norms) ≡ true)
+  planned : (lowestBad m s ≡ rowsOf m) × (residentRoomOk (rowsOf m) (dimensionsOf m) (length codes) (length scales) (length norms) ≡ true)
   unfolding buildRefusal
   planned =
       planned-none m s (length codes) (length scales) (length norms)
@@ -95,41 +96,41 @@ module _ (m : List ℕ) (expected room : ℕ) (s : List ℕ) (codes : List ℤ) 
       ap (validRow baseLevels (metricAt m)) (built-rows baseLevels midpoints m s refusal h codes scales norms r l) ∙ rows-valid m s base base-table (planned .0) r l
 
   -- a search finds the lengths of the slices as the state has them
-  pub built-held : lengthsOk (builtBy m refusal (length codes) (length scales) (length norms) .state) (rowsOf m) (dimensionsOf m)
+  pub built-held : residentLengthsOk (builtBy m refusal (length codes) (length scales) (length norms) .state) (rowsOf m) (dimensionsOf m)
       (length (codesAfter baseLevels midpoints m s refusal codes)) (length (scalesAfter baseLevels midpoints m s refusal scales)) (length (normsAfter baseLevels midpoints m s refusal norms)) ≡ true
-  unfolding lengthsOk answered
+  unfolding residentLengthsOk residentAnswer
   built-held =
       let l = built-lengths baseLevels midpoints m s refusal h codes scales norms (planned .1) in
-      let b : State = record { head = headAt m; codes = length codes; scales = length scales; norms = length norms } in
-      rw (is-done refusal b zeroState h, l .0, l .1, l .2, eq-eqb (length codes) (length codes) refl, eq-eqb (length scales) (length scales) refl, eq-eqb (length norms) (length norms) refl) (planned .1)
+      let b : ResidentState = record { head = headAt m; codes = length codes; scales = length scales; norms = length norms } in
+      rw (is-done refusal b zeroResidentState h, l .0, l .1, l .2, eq-eqb (length codes) (length codes) refl, eq-eqb (length scales) (length scales) refl, eq-eqb (length norms) (length norms) refl) (planned .1)
 
   -- readings R3: against the state's head, the head test of a search is document 01's sentence on 21
   pub built-head : (lent : List ℕ) → AllBytes lent → AllBytes m
       → (sameHead lent (builtBy m refusal (length codes) (length scales) (length norms) .state .head) ≡ true) ↔ Unchanged lent m
-  unfolding buildRefusal answered
+  unfolding buildRefusal residentAnswer
   built-head lent b c =
       let n = none-refused (manifestNumber m expected room) (plannedRefusal m s (length codes) (length scales) (length norms)) h .0 in
-      let st : State = record { head = headAt m; codes = length codes; scales = length scales; norms = length norms } in
-      accepted-head lent m b c expected room _ n (ap (λ (x : State). x .head) (is-done refusal st zeroState h))
+      let st : ResidentState = record { head = headAt m; codes = length codes; scales = length scales; norms = length norms } in
+      accepted-head lent m b c expected room _ n (ap (λ (x : ResidentState). x .head) (is-done refusal st zeroResidentState h))
 
 -- ---- an accepted library
-planned-accepted : (m s : List ℕ) → recordsRefusal m s ≡ none → (codes scales norms : ℕ)
-    → plannedRefusal m s codes scales norms ≡ refused (roomNumber (rowsOf m) (dimensionsOf m) codes scales norms) 0
+planned-accepted : (m s : List ℕ) → badRecordRefusal m s ≡ none → (codes scales norms : ℕ)
+    → plannedRefusal m s codes scales norms ≡ refused (residentRoomNumber (rowsOf m) (dimensionsOf m) codes scales norms) 0
 unfolding plannedRefusal
-planned-accepted m s h codes scales norms = rw h (or-none (roomNumber (rowsOf m) (dimensionsOf m) codes scales norms))
+planned-accepted m s h codes scales norms = rw h (or-none (residentRoomNumber (rowsOf m) (dimensionsOf m) codes scales norms))
 
 -- building it, with a scratch of at least rows elements, refuses by 8 or 11 alone, at 0
 pub accepted-built : (m : List ℕ) (expected room : ℕ) (s : List ℕ) → libraryRefusal m expected room s .number ≡ 0 → (other : ℕ) → rowsOf m ≤ other
-    → (codes scales norms : ℕ) → buildRefusal m expected other s codes scales norms ≡ refused (roomNumber (rowsOf m) (dimensionsOf m) codes scales norms) 0
+    → (codes scales norms : ℕ) → buildRefusal m expected other s codes scales norms ≡ refused (residentRoomNumber (rowsOf m) (dimensionsOf m) codes scales norms) 0
 accepted-built m expected room s h other f codes scales norms =
     let a = library-accepted m expected room s h in
     sym (refused-next m expected other s codes scales norms (other-room m expected room other (accepted-number a) f)) ∙ planned-accepted m s (all-good m s (a .records)) codes scales norms
 
-room-not-5 : (rows dimensions codes scales norms : ℕ) → roomNumber rows dimensions codes scales norms ≡ 5 → ⊥
-unfolding roomNumber
+room-not-5 : (rows dimensions codes scales norms : ℕ) → residentRoomNumber rows dimensions codes scales norms ≡ 5 → ⊥
+unfolding residentRoomNumber
 room-not-5 rows dimensions codes scales norms h =
     let a = held (codesOk rows dimensions) (eqb-false 8 5 refl) h in
-    let b = held (roomOk rows dimensions codes scales norms) (eqb-false 11 5 refl) (a .1) in
+    let b = held (residentRoomOk rows dimensions codes scales norms) (eqb-false 11 5 refl) (a .1) in
     eqb-false 0 5 refl (b .1)
 
 -- and never, whatever CRC-32 is expected and whatever is lent, by 5

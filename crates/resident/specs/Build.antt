@@ -8,60 +8,60 @@ use lib.Dec.{leb, eqb}
 use lib.IntN.{ℤ, pos}
 use lib.ListN.{getD}
 use lib.Ieee.{Float, nan}
-use Rattle.le.specs.Le.{paste}
+use Rattle.le.specs.Le.{paste, joined}
 use Rattle.config.specs.Refusal.{refusedOr, unlessRefused}
 use Rattle.config.specs.declared.Refusal.{Refusal}
 use Rattle.format.specs.Order.{unless}
 use Rattle.format.specs.Fields.{dimensionsOf, rowsOf}
 use Rattle.format.specs.Head.{headAt, zeroHead}
 use Rattle.format.specs.declared.Head.{Head}
-use Rattle.geometry.specs.Sizing.{codesOk}
+use Rattle.cache_format.specs.Sizing.{codesOk}
 use Rattle.manifest.specs.Check.{manifestNumber}
 use Rattle.quantization.specs.View.{View}
 use Rattle.codes.specs.Codes.{part}
-use Rattle.rows.specs.Rows.{rowOf, joined, recordsRefusal}
-use Rattle.resident.specs.declared.State.{State}
+use Rattle.encoded_rows.specs.Rows.{rowOf, badRecordRefusal}
+use Rattle.resident.specs.declared.ResidentState.{ResidentState}
 use Rattle.resident.specs.declared.Built.{Built}
 
 -- "11 is only for .. resident codes under rows × dimensions, or scales, norms .. under rows", of the lengths lent
-abbrev pub roomOk : ℕ → ℕ → ℕ → ℕ → ℕ → Bool
-roomOk rows dimensions codes scales norms = leb (rows * dimensions) codes && leb rows scales && leb rows norms
+abbrev pub residentRoomOk : ℕ → ℕ → ℕ → ℕ → ℕ → Bool
+residentRoomOk rows dimensions codes scales norms = leb (rows * dimensions) codes && leb rows scales && leb rows norms
 
 -- "8: rows × dimensions over 536,870,912", then 11
-unfoldable pub roomNumber : ℕ → ℕ → ℕ → ℕ → ℕ → ℕ
-roomNumber rows dimensions codes scales norms =
+unfoldable pub residentRoomNumber : ℕ → ℕ → ℕ → ℕ → ℕ → ℕ
+residentRoomNumber rows dimensions codes scales norms =
     unless (codesOk rows dimensions) 8
-    (unless (roomOk rows dimensions codes scales norms) 11 0)
+    (unless (residentRoomOk rows dimensions codes scales norms) 11 0)
 
 -- 8, 11, 5
 unfoldable pub plannedRefusal : List ℕ → List ℕ → ℕ → ℕ → ℕ → Refusal
 plannedRefusal m s codes scales norms =
-    refusedOr (roomNumber (rowsOf m) (dimensionsOf m) codes scales norms) (recordsRefusal m s)
+    refusedOr (residentRoomNumber (rowsOf m) (dimensionsOf m) codes scales norms) (badRecordRefusal m s)
 
--- `room` is the length of the scratch
+-- `scratch` is the length of the scratch slice
 unfoldable pub buildRefusal : List ℕ → ℕ → ℕ → List ℕ → ℕ → ℕ → ℕ → Refusal
-buildRefusal m expected room s codes scales norms = refusedOr (manifestNumber m expected room) (plannedRefusal m s codes scales norms)
+buildRefusal m expected scratch s codes scales norms = refusedOr (manifestNumber m expected scratch) (plannedRefusal m s codes scales norms)
 
 -- readings R2: the accepted head and the lengths as lent; R23: "the state returned by a refused .. building is all zero"
-abbrev pub zeroState : State
-zeroState = record { head = zeroHead; codes = 0; scales = 0; norms = 0 }
+abbrev pub zeroResidentState : ResidentState
+zeroResidentState = record { head = zeroHead; codes = 0; scales = 0; norms = 0 }
 
-unfoldable pub answered : Head → Refusal → ℕ → ℕ → ℕ → Built
-answered head refusal codes scales norms =
+unfoldable pub residentAnswer : Head → Refusal → ℕ → ℕ → ℕ → Built
+residentAnswer head refusal codes scales norms =
     record {
       refusal = refusal;
-      state = unlessRefused refusal (record { head = head; codes = codes; scales = scales; norms = norms }) zeroState;
+      state = unlessRefused refusal (record { head = head; codes = codes; scales = scales; norms = norms }) zeroResidentState;
     }
 
 abbrev pub builtBy : List ℕ → Refusal → ℕ → ℕ → ℕ → Built
-builtBy m refusal codes scales norms = answered (headAt m) refusal codes scales norms
+builtBy m refusal codes scales norms = residentAnswer (headAt m) refusal codes scales norms
 
 -- the whole answer, of an accepted manifest and of any; its refusal says what is left of each slice lent
 abbrev pub builtAccepted : List ℕ → List ℕ → ℕ → ℕ → ℕ → Built
 builtAccepted m s codes scales norms = builtBy m (plannedRefusal m s codes scales norms) codes scales norms
 
 abbrev pub built : List ℕ → ℕ → ℕ → List ℕ → ℕ → ℕ → ℕ → Built
-built m expected room s codes scales norms = builtBy m (buildRefusal m expected room s codes scales norms) codes scales norms
+built m expected scratch s codes scales norms = builtBy m (buildRefusal m expected scratch s codes scales norms) codes scales norms
 
 -- the codes, scales and norms of the first n rows by an encoder's levels and midpoints (document 01, The arithmetic, Encoder), and what stood
 -- past them (readings R2: "Elements past the rows are neither written nor tested")
@@ -90,6 +90,6 @@ residentAt dimensions codes scales norms n = record { scale = getD scales n nan;
 
 -- the lengths of the slices lent to a search (document 01, What each place turns away, 21: "the cache or resident length differs"): as building's state has them,
 -- and, of a state that no building returned, not under what the rows need (readings R3)
-unfoldable pub lengthsOk : State → ℕ → ℕ → ℕ → ℕ → ℕ → Bool
-lengthsOk state rows dimensions codes scales norms =
-    eqb codes (state .codes) && eqb scales (state .scales) && eqb norms (state .norms) && roomOk rows dimensions codes scales norms
+unfoldable pub residentLengthsOk : ResidentState → ℕ → ℕ → ℕ → ℕ → ℕ → Bool
+residentLengthsOk state rows dimensions codes scales norms =
+    eqb codes (state .codes) && eqb scales (state .scales) && eqb norms (state .norms) && residentRoomOk rows dimensions codes scales norms

@@ -5,20 +5,20 @@ ghost use Prim.Native.Nat.{_*_, _≤_};
 ghost use lib.ListN.{length};
 ghost use Rattle.format.specs.Fields.{dimensionsOf, rowsOf};
 ghost use Rattle.format.specs.Head.{headNumber};
-ghost use Rattle.format.specs.Layout.{Placed};
+ghost use Rattle.format.specs.Layout.{LaidOut};
 ghost use Rattle.entries.specs.Plan.{rowsOk};
 ghost use Rattle.manifest.specs.Scratch.{rowKeys};
 ghost use Rattle.manifest.specs.Check.{scratchAfter};
 ghost use Rattle.segment.specs.Record.{startsOf};
 ghost use Rattle.quantization.specs.Encoder.{Levels, midpointsOf, baseLevels, midpoints};
-ghost use Rattle.rows.specs.Rows.{badRow};
-ghost use Rattle.resident.specs.Build.{roomOk, roomNumber, lengthsOk, plannedRefusal, answered, builtAccepted, built, codesUpto, scalesUpto, normsUpto, codesAfter, scalesAfter, normsAfter};
+ghost use Rattle.encoded_rows.specs.Rows.{lowestBad};
+ghost use Rattle.resident.specs.Build.{residentRoomOk, residentRoomNumber, residentLengthsOk, plannedRefusal, residentAnswer, builtAccepted, built, codesUpto, scalesUpto, normsUpto, codesAfter, scalesAfter, normsAfter};
 use config::Refusal;
 use format::Head;
 use format::Layout;
 
 // What was accepted, and the lengths of the slices as lent.
-pub struct State {
+pub struct ResidentState {
     pub head: Head,
     pub codes: usize,
     pub scales: usize,
@@ -28,7 +28,7 @@ pub struct State {
 // A refusal, or what a search compares.
 pub struct Built {
     pub refusal: Refusal,
-    pub state: State,
+    pub state: ResidentState,
 }
 
 // ---- The tests.
@@ -36,7 +36,7 @@ pub struct Built {
 // Building's 11, of the three slices.
 fn room_holds(rows: usize, dimensions: usize, codes: usize, scales: usize, norms: usize) -> bool
     requires { ⌜ (rows ≤ 1000000) × (dimensions ≤ 4096) ⌝ }
-    ensures { λ r. ⌜ r ≡ roomOk rows dimensions codes scales norms ⌝ }
+    ensures { λ r. ⌜ r ≡ residentRoomOk rows dimensions codes scales norms ⌝ }
 {
     (rows * dimensions <= codes) & (rows <= scales) & (rows <= norms)
 }
@@ -44,9 +44,9 @@ fn room_holds(rows: usize, dimensions: usize, codes: usize, scales: usize, norms
 // The number of the first test of the sizes that fails, or 0.
 fn room_number(rows: usize, dimensions: usize, codes: usize, scales: usize, norms: usize) -> u32
     requires { ⌜ (rows ≤ 1000000) × (dimensions ≤ 4096) ⌝ }
-    ensures { λ r. ⌜ r ≡ roomNumber rows dimensions codes scales norms ⌝ }
+    ensures { λ r. ⌜ r ≡ residentRoomNumber rows dimensions codes scales norms ⌝ }
 {
-    if !geometry::codes_hold(rows, dimensions) {
+    if !cache_format::codes_hold(rows, dimensions) {
         return 8;
     }
     if !room_holds(rows, dimensions, codes, scales, norms) {
@@ -56,11 +56,19 @@ fn room_number(rows: usize, dimensions: usize, codes: usize, scales: usize, norm
 }
 
 // Of an accepted manifest, its rows in the order of their records, and the lengths of the slices.
-fn plan(m: &[u8], s: &[u8], keys: &[u64], codes: usize, scales: usize, norms: usize) -> Refusal
-    requires { ⌜ (headNumber (now m) ≡ 0) × (rowsOk (now m) ≡ true) × (now keys ≡ rowKeys (now m)) ⌝ }
+fn plan(
+    m: &[u8],
+    layout: Layout,
+    starts: &[u64; 1025],
+    s: &[u8],
+    keys: &[u64],
+    codes: usize,
+    scales: usize,
+    norms: usize,
+) -> Refusal
+    requires { ⌜ LaidOut (now m) layout × (rowsOk (now m) ≡ true) × (now starts ≡ startsOf (now m)) × (now keys ≡ rowKeys (now m)) ⌝ }
     ensures { λ r. ⌜ r ≡ plannedRefusal (now (m .entry)) (now (s .entry)) codes scales norms ⌝ }
 {
-    let layout = format::read_layout(m);
     let number = room_number(layout.rows, layout.dimensions, codes, scales, norms);
     if number != 0 {
         return Refusal {
@@ -68,13 +76,12 @@ fn plan(m: &[u8], s: &[u8], keys: &[u64], codes: usize, scales: usize, norms: us
             place: 0,
         };
     }
-    let starts = segment::starts(m, layout);
-    rows::records_refusal(m, layout, &starts, s, keys)
+    encoded_rows::records_refusal(m, layout, starts, s, keys)
 }
 
 // The lengths that a search compares, against those of the state and what the rows need.
 pub fn lengths_hold(
-    state: State,
+    state: ResidentState,
     rows: usize,
     dimensions: usize,
     codes: usize,
@@ -82,7 +89,7 @@ pub fn lengths_hold(
     norms: usize,
 ) -> bool
     requires { ⌜ (rows ≤ 1000000) × (dimensions ≤ 4096) ⌝ }
-    ensures { λ r. ⌜ r ≡ lengthsOk state rows dimensions codes scales norms ⌝ }
+    ensures { λ r. ⌜ r ≡ residentLengthsOk state rows dimensions codes scales norms ⌝ }
 {
     (codes == state.codes)
         & (scales == state.scales)
@@ -103,8 +110,8 @@ fn fill(
     scales: &mut [f64],
     norms: &mut [i64],
 )
-    requires { ⌜ Placed (now m) layout × (rowsOk (now m) ≡ true) × (now starts ≡ startsOf (now m)) × (now t ≡ midpoints)
-        × (badRow (now m) (now s) ≡ rowsOf (now m)) × Levels levels ⌝ }
+    requires { ⌜ LaidOut (now m) layout × (rowsOk (now m) ≡ true) × (now starts ≡ startsOf (now m)) × (now t ≡ midpoints)
+        × (lowestBad (now m) (now s) ≡ rowsOf (now m)) × Levels levels ⌝ }
     requires { ⌜ (rowsOf (now m) * dimensionsOf (now m) ≤ length (now codes)) × (rowsOf (now m) ≤ length (now scales))
         × (rowsOf (now m) ≤ length (now norms)) ⌝ }
     ensures { λ r. ⌜ (now (codes .exit) ≡ codesUpto levels (midpointsOf levels) (now (m .entry)) (now (s .entry)) (rowsOf (now (m .entry))) (now (codes .entry)))
@@ -126,29 +133,37 @@ fn fill(
 }
 
 // All rows, of an accepted manifest and good records.
-fn store(levels: u32, m: &[u8], s: &[u8], codes: &mut [i8], scales: &mut [f64], norms: &mut [i64])
-    requires { ⌜ (headNumber (now m) ≡ 0) × (rowsOk (now m) ≡ true) × (badRow (now m) (now s) ≡ rowsOf (now m)) × Levels levels ⌝ }
+fn store(
+    levels: u32,
+    m: &[u8],
+    layout: Layout,
+    starts: &[u64; 1025],
+    s: &[u8],
+    codes: &mut [i8],
+    scales: &mut [f64],
+    norms: &mut [i64],
+)
+    requires { ⌜ LaidOut (now m) layout × (rowsOk (now m) ≡ true) × (now starts ≡ startsOf (now m)) × (lowestBad (now m) (now s) ≡ rowsOf (now m))
+        × Levels levels ⌝ }
     requires { ⌜ (rowsOf (now m) * dimensionsOf (now m) ≤ length (now codes)) × (rowsOf (now m) ≤ length (now scales))
         × (rowsOf (now m) ≤ length (now norms)) ⌝ }
     ensures { λ r. ⌜ (now (codes .exit) ≡ codesUpto levels (midpointsOf levels) (now (m .entry)) (now (s .entry)) (rowsOf (now (m .entry))) (now (codes .entry)))
         × (now (scales .exit) ≡ scalesUpto levels (midpointsOf levels) (now (m .entry)) (now (s .entry)) (rowsOf (now (m .entry))) (now (scales .entry)))
         × (now (norms .exit) ≡ normsUpto levels (midpointsOf levels) (now (m .entry)) (now (s .entry)) (rowsOf (now (m .entry))) (now (norms .entry))) ⌝ }
 {
-    let layout = format::read_layout(m);
-    let starts = segment::starts(m, layout);
     let t = quantization::midpoints_table();
-    fill(levels, m, layout, &starts, &t, s, codes, scales, norms);
+    fill(levels, m, layout, starts, &t, s, codes, scales, norms);
 }
 
 // ---- Building.
 
 fn answer(head: Head, refusal: Refusal, codes: usize, scales: usize, norms: usize) -> Built
-    ensures { λ r. ⌜ r ≡ answered head refusal codes scales norms ⌝ }
+    ensures { λ r. ⌜ r ≡ residentAnswer head refusal codes scales norms ⌝ }
 {
     if refusal.number == 0 {
         return Built {
             refusal: refusal,
-            state: State {
+            state: ResidentState {
                 head: head,
                 codes: codes,
                 scales: scales,
@@ -158,7 +173,7 @@ fn answer(head: Head, refusal: Refusal, codes: usize, scales: usize, norms: usiz
     }
     Built {
         refusal: refusal,
-        state: State {
+        state: ResidentState {
             head: format::zero_head(),
             codes: 0,
             scales: 0,
@@ -183,11 +198,31 @@ fn build_accepted(
         × (now (norms .exit) ≡ normsAfter baseLevels midpoints (now (m .entry)) (now (s .entry)) (r .refusal) (now (norms .entry))) ⌝ }
 {
     let head = format::read_head(m);
-    let refusal = plan(m, s, keys, codes.len(), scales.len(), norms.len());
+    let layout = format::read_layout(m);
+    let starts = segment::starts(m, layout);
+    let refusal = plan(
+        m,
+        layout,
+        &starts,
+        s,
+        keys,
+        codes.len(),
+        scales.len(),
+        norms.len(),
+    );
     if refusal.number != 0 {
         return answer(head, refusal, codes.len(), scales.len(), norms.len());
     }
-    store(quantization::BASE_LEVELS, m, s, codes, scales, norms);
+    store(
+        quantization::BASE_LEVELS,
+        m,
+        layout,
+        &starts,
+        s,
+        codes,
+        scales,
+        norms,
+    );
     answer(head, refusal, codes.len(), scales.len(), norms.len())
 }
 

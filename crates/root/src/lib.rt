@@ -5,7 +5,7 @@ ghost use Prim.Native.Nat.{ℕ, _+_, _-_, _*_, _%_, _^_, _≤_, _<_};
 ghost use lib.Dec.{leb};
 ghost use lib.ListN.{getD};
 ghost use lib.Ieee.{nan, binary64, ofBits, lt};
-ghost use Rattle.float.specs.Values.{zero, quad};
+ghost use Rattle.float.specs.Values.{plusZero, quad};
 ghost use Rattle.root.specs.SquareRoot.{Near, Root, IsRoot, Scale, Ordinary, sqrtOf};
 
 // A number of 106 bits is two digits of 53 bits: high * 2^53 + low.
@@ -130,7 +130,8 @@ struct Scaled {
 // A subnormal's digits, moved up until there are 53.
 fn raised(tail: u64) -> Scaled
     requires { ⌜ (0 < tail) × (tail < 2 ^ 52) ⌝ }
-    ensures { λ r. ⌜ (r .digits * 2 ^ r .exponent ≡ tail * 2 ^ 1074) × (2 ^ 52 ≤ r .digits) × (r .digits < 2 ^ 53) × (1022 ≤ r .exponent) × (r .exponent ≤ 1074) ⌝ }
+    ensures { λ r. ⌜ (r .digits * 2 ^ r .exponent ≡ tail * 2 ^ 1074) × (2 ^ 52 ≤ r .digits) × (r .digits < 2 ^ 53) × (1022 ≤ r .exponent)
+        × (r .exponent ≤ 1074) ⌝ }
 {
     let mut d = tail;
     let mut e: u64 = 1074;
@@ -181,7 +182,8 @@ fn guess(x: f64, bits: u64) -> u64
 // V, whose root is taken: d * 2^52 or, for an odd e, d * 2^53.
 fn radicand(d: u64, e: u64) -> Wide
     requires { ⌜ (2 ^ 52 ≤ d) × (d < 2 ^ 53) ⌝ }
-    ensures { λ r. ⌜ (r .high * 2 ^ 53 + r .low ≡ d * 2 ^ (e % 2 + 52)) × (r .low < 2 ^ 53) × (2 ^ 104 ≤ r .high * 2 ^ 53 + r .low) × (r .high * 2 ^ 53 + r .low ≤ 2 ^ 106 - 2 ^ 53) ⌝ }
+    ensures { λ r. ⌜ (r .high * 2 ^ 53 + r .low ≡ d * 2 ^ (e % 2 + 52)) × (r .low < 2 ^ 53) × (2 ^ 104 ≤ r .high * 2 ^ 53 + r .low)
+        × (r .high * 2 ^ 53 + r .low ≤ 2 ^ 106 - 2 ^ 53) ⌝ }
 {
     if e % 2 == 0 {
         return Wide {
@@ -319,7 +321,7 @@ fn guess_of(x: f64) -> u64
 // The root by a guess at its digits; or 0, where the guess is not near enough.
 fn quick_sqrt(x: f64, m: u64) -> f64
     requires { ⌜ Ordinary x × (2 ^ 52 ≤ m) × (m < 2 ^ 53) ⌝ }
-    ensures { λ r. ⌜ (lt zero r ≡ true → r ≡ sqrtOf x) ⌝ }
+    ensures { λ r. ⌜ (lt plusZero r ≡ true → r ≡ sqrtOf x) ⌝ }
 {
     let r = quick_root_bits(f64::to_bits(x), m);
     if 0 < r {

@@ -14,7 +14,7 @@ use lib.Ieee.Fits.{cond-fits, sub-fits, mul-fits, round-fits}
 use lib.Ieee.Bits.{is-true}
 use lib.Ieee.Scale.{finite}
 use Rattle.le.proofs.Chain.{by}
-use Rattle.float.specs.Values.{zero as nought, one, two}
+use Rattle.float.specs.Values.{plusZero, one, two}
 use Rattle.float.specs.Hold.{maxZero, clamp}
 use Rattle.float.proofs.Within.{Within, two as power}
 use Rattle.float.proofs.Bounds.{within-refl, within-trans, within-of-le, neg-within, int-within, int-over, mul-under, mul-over, add-under, sub-under, div-under, within-pos, round-sign}
@@ -36,7 +36,7 @@ use Rattle.quantization.specs.Encoder.{Levels, Table, encode}
 use Rattle.quantization.proofs.Codes.{within-cons}
 use Rattle.quantization.proofs.Scales.{bound-sign}
 use Rattle.quantization.proofs.Encoded.{encoded-length, scale-positive, scale-range, encoded-valid}
-use Rattle.row.specs.Distance.{_⊕_, _⊖_, _⊗_, _⊘_, whole, squaredL2, innerProduct, cosineBy, distanceOf, approximate}
+use Rattle.row.specs.Distance.{_⊕_, _⊖_, _⊗_, _⊘_, ofInteger, squaredL2, innerProduct, cosineBy, distanceOf, approximate}
 use Rattle.row.specs.Answer.{refusalOf, rowAnswer}
 use Rattle.row.proofs.Views.{Summed, summed, second}
 use Rattle.row.proofs.Yields.{refusal-is}
@@ -61,7 +61,7 @@ squares-within k (x ∷ xs) h =
     rw (mul-suc (k * k) (length xs)) (omega (arith, squares-within k xs (p .1), mul-le-mul (p .0) (p .0)))
 
 -- ---- the distances of scales up to 2 ^ 128, and of norms and dot products up to 2 ^ 26
-whole-under : (z : ℤ) → natAbs z ≤ 67108864 → Within (whole z) (power 26)
+whole-under : (z : ℤ) → natAbs z ≤ 67108864 → Within (ofInteger z) (power 26)
 whole-under z h = int-within binary64 z (power 26) tt (omega arith)
 
 l2-finite : (s qs : Float) (n m d : ℤ) → Within s (power 128) → Within qs (power 128) → natAbs n ≤ 67108864 → natAbs m ≤ 67108864 → natAbs d ≤ 67108864
@@ -72,23 +72,23 @@ l2-finite s qs n m d a b h k l =
     let y = mul-under binary64 (power 282) (mul-under binary64 (power 256) b b tt) (whole-under m k) tt in
     let z = mul-under binary64 (power 283) (mul-under binary64 (power 257) (mul-under binary64 (power 129) (within-refl two tt) a tt) b tt) (whole-under d l) tt in
     let r = sub-under binary64 (power 285) (add-under binary64 (power 283) x y tt) z tt in
-    by (lt nought (((s ⊗ s) ⊗ whole n ⊕ (qs ⊗ qs) ⊗ whole m) ⊖ ((two ⊗ s) ⊗ qs) ⊗ whole d)) (λ e. rw e (r .fine)) (λ e. rw e tt)
+    by (lt plusZero (((s ⊗ s) ⊗ ofInteger n ⊕ (qs ⊗ qs) ⊗ ofInteger m) ⊖ ((two ⊗ s) ⊗ qs) ⊗ ofInteger d)) (λ e. rw e (r .fine)) (λ e. rw e tt)
 
 inner-finite : (s qs : Float) (d : ℤ) → Within s (power 128) → Within qs (power 128) → natAbs d ≤ 67108864 → T (finite (innerProduct s qs d))
 unfolding innerProduct
 inner-finite s qs d a b l = mul-under binary64 (power 282) (mul-under binary64 (power 256) (neg-within a) b tt) (whole-under d l) tt .fine
 
 -- the root of a norm of 1 to 2 ^ 26
-root-in : (n : ℕ) → 0 < n → n ≤ 67108864 → Within one (sqrtOf (whole (pos n))) × Within (sqrtOf (whole (pos n))) (power 14)
+root-in : (n : ℕ) → 0 < n → n ≤ 67108864 → Within one (sqrtOf (ofInteger (pos n))) × Within (sqrtOf (ofInteger (pos n))) (power 14)
 root-in n p h =
-    let x = whole (pos n) in
+    let x = ofInteger (pos n) in
     let u = whole-under (pos n) h in
     let o : Within one x = int-over binary64 (pos n) one tt (omega arith) (u .fine) in
     let w = positive-of x (u .fine) (unfold ofInt in round-sign binary64 false n 1) (within-pos o (lit< tt)) in
     let R = sqrt-root x (unfold ofInt in round-fits binary64 false n 1) w in
     (root-over x (sqrtOf x) R 1074 one one tt (lit≤ tt) (lit≤ tt) o, root-under x (sqrtOf x) R 1088 (power 26) (power 14) tt (lit< tt) (lit≤ tt) u)
 
-cosine-finite : (n m : ℕ) (d : ℤ) → 0 < n → 0 < m → n ≤ 67108864 → m ≤ 67108864 → natAbs d ≤ 67108864 → T (finite (cosineBy (pos n) (sqrtOf (whole (pos m))) d))
+cosine-finite : (n m : ℕ) (d : ℤ) → 0 < n → 0 < m → n ≤ 67108864 → m ≤ 67108864 → natAbs d ≤ 67108864 → T (finite (cosineBy (pos n) (sqrtOf (ofInteger (pos m))) d))
 unfolding cosineBy
 cosine-finite n m d p q h k l =
     let a = root-in n p h in
@@ -96,7 +96,7 @@ cosine-finite n m d p q h k l =
     let c = mul-under binary64 (power 28) (a .1) (b .1) tt in
     let e = mul-over binary64 one (a .0) (b .0) tt (lit≤ tt) (c .fine) in
     let r = sub-under binary64 (power 27) (within-refl one tt) (div-under binary64 (power 26) (whole-under d l) e tt) tt in
-    hold-in (one ⊖ whole d ⊘ (sqrtOf (whole (pos n)) ⊗ sqrtOf (whole (pos m)))) (finite-number (one ⊖ whole d ⊘ (sqrtOf (whole (pos n)) ⊗ sqrtOf (whole (pos m)))) (r .fine)) .fine
+    hold-in (one ⊖ ofInteger d ⊘ (sqrtOf (ofInteger (pos n)) ⊗ sqrtOf (ofInteger (pos m)))) (finite-number (one ⊖ ofInteger d ⊘ (sqrtOf (ofInteger (pos n)) ⊗ sqrtOf (ofInteger (pos m)))) (r .fine)) .fine
 
 -- ---- of two rows that pass the row test
 abbrev Passes : ℕ → Metric → View → Type 0
@@ -138,9 +138,9 @@ module _ {levels : ℕ} {mids : List Float} (g : Levels levels) (t : Table level
   scale-under : (v : List Float) → all (fits binary32) v ≡ true → finites v ≡ true → Within (encode levels mids v .scale) (power 128)
   scale-under v f h =
       let s = encode levels mids v .scale in
-      let b = div binary64 most32 (whole (pos levels)) in
+      let b = div binary64 most32 (ofInteger (pos levels)) in
       let w = int-within binary64 (pos levels) (power 26) tt (omega (arith, g .1)) in
-      let o : Within one (whole (pos levels)) = int-over binary64 (pos levels) one tt (omega (arith, g .0)) (w .fine) in
+      let o : Within one (ofInteger (pos levels)) = int-over binary64 (pos levels) one tt (omega (arith, g .0)) (w .fine) in
       let u : Within b (power 128) = div-under binary64 (power 128) (within-refl most32 tt) o tt in
       let p = positive-parts s (scale-positive g mids v f h) in
       within-trans (within-of-le s b (p .1) (bound-sign g most32 tt refl) (u .fine) (scale-range g mids v f h .1)) u
@@ -163,21 +163,21 @@ module _ {levels : ℕ} {mids : List Float} (g : Levels levels) (t : Table level
 -- ---- every distance is a value of an f64
 max-fits : (x : Float) → T (fits binary64 x) → T (fits binary64 (maxZero x))
 unfolding maxZero
-max-fits x f = cond-fits binary64 (lt nought x) x nought f (unfold fits in tt)
+max-fits x f = cond-fits binary64 (lt plusZero x) x plusZero f (unfold fits in tt)
 
-hold-fits : (x : Float) → T (fits binary64 x) → T (fits binary64 (clamp nought two x))
+hold-fits : (x : Float) → T (fits binary64 x) → T (fits binary64 (clamp plusZero two x))
 unfolding clamp
-hold-fits x f = cond-fits binary64 (lt x nought) nought (cond (lt two x) two x) (unfold fits in tt) (cond-fits binary64 (lt two x) two x (unfold fits in tt) f)
+hold-fits x f = cond-fits binary64 (lt x plusZero) plusZero (cond (lt two x) two x) (unfold fits in tt) (cond-fits binary64 (lt two x) two x (unfold fits in tt) f)
 
 pub distance-fits : (metric : Metric) (r q : View) → T (fits binary64 (approximate metric r q))
 unfolding approximate distanceOf squaredL2 innerProduct cosineBy
 distance-fits SquaredL2 r q =
     let s = r .scale in
     let t = q .scale in
-    let x = (s ⊗ s) ⊗ whole (r .norm) ⊕ (t ⊗ t) ⊗ whole (q .norm) in
-    let y = ((two ⊗ s) ⊗ t) ⊗ whole (dot (r .codes) (q .codes)) in
+    let x = (s ⊗ s) ⊗ ofInteger (r .norm) ⊕ (t ⊗ t) ⊗ ofInteger (q .norm) in
+    let y = ((two ⊗ s) ⊗ t) ⊗ ofInteger (dot (r .codes) (q .codes)) in
     max-fits (x ⊖ y) (sub-fits binary64 x y)
 distance-fits Cosine r q =
-    let y = whole (dot (r .codes) (q .codes)) ⊘ (sqrtOf (whole (r .norm)) ⊗ sqrtOf (whole (q .norm))) in
+    let y = ofInteger (dot (r .codes) (q .codes)) ⊘ (sqrtOf (ofInteger (r .norm)) ⊗ sqrtOf (ofInteger (q .norm))) in
     hold-fits (one ⊖ y) (sub-fits binary64 one y)
-distance-fits InnerProduct r q = mul-fits binary64 (neg (r .scale) ⊗ q .scale) (whole (dot (r .codes) (q .codes)))
+distance-fits InnerProduct r q = mul-fits binary64 (neg (r .scale) ⊗ q .scale) (ofInteger (dot (r .codes) (q .codes)))

@@ -33,7 +33,7 @@ pub enum RowAnswer {
     Refused(Refusal),
 }
 
-fn whole(n: i64) -> f64
+fn of_integer(n: i64) -> f64
     requires { ⌜ natAbs n ≤ 9007199254740992 ⌝ }
     ensures { λ r. ⌜ r ≡ ofInt binary64 n ⌝ }
 {
@@ -45,21 +45,21 @@ pub fn norm_root(norm: i64) -> f64
     requires { ⌜ natAbs norm ≤ 9007199254740992 ⌝ }
     ensures { λ r. ⌜ r ≡ sqrtOf (ofInt binary64 norm) ⌝ }
 {
-    root::sqrt(whole(norm))
+    root::sqrt(of_integer(norm))
 }
 
 fn squared_l2(s: f64, n: i64, qs: f64, qn: i64, d: i64) -> f64
     requires { ⌜ (natAbs n ≤ 9007199254740992) × (natAbs qn ≤ 9007199254740992) × (natAbs d ≤ 9007199254740992) ⌝ }
     ensures { λ r. ⌜ r ≡ squaredL2 s n qs qn d ⌝ }
 {
-    float::max_zero(s * s * whole(n) + qs * qs * whole(qn) - 2.0 * s * qs * whole(d))
+    float::max_zero(s * s * of_integer(n) + qs * qs * of_integer(qn) - 2.0 * s * qs * of_integer(d))
 }
 
 fn inner_product(s: f64, qs: f64, d: i64) -> f64
     requires { ⌜ natAbs d ≤ 9007199254740992 ⌝ }
     ensures { λ r. ⌜ r ≡ innerProduct s qs d ⌝ }
 {
-    -s * qs * whole(d)
+    -s * qs * of_integer(d)
 }
 
 // With the root of the query's norm.
@@ -67,11 +67,12 @@ fn cosine_of(n: i64, root: f64, d: i64) -> f64
     requires { ⌜ (natAbs n ≤ 9007199254740992) × (natAbs d ≤ 9007199254740992) ⌝ }
     ensures { λ r. ⌜ r ≡ cosineBy n root d ⌝ }
 {
-    float::hold(1.0 - whole(d) / (root::sqrt(whole(n)) * root))
+    float::hold(1.0 - of_integer(d) / (root::sqrt(of_integer(n)) * root))
 }
 
 pub fn approximate_distance(metric: Metric, row: Row, query: Row, root: f64, dot: i32) -> f64
-    requires { ⌜ (natAbs (row .norm) ≤ 9007199254740992) × (natAbs (query .norm) ≤ 9007199254740992) × (root ≡ sqrtOf (ofInt binary64 (query .norm))) ⌝ }
+    requires { ⌜ (natAbs (row .norm) ≤ 9007199254740992) × (natAbs (query .norm) ≤ 9007199254740992)
+        × (root ≡ sqrtOf (ofInt binary64 (query .norm))) ⌝ }
     ensures { λ r. ⌜ r ≡ distanceOf metric (row .scale) (row .norm) (query .scale) (query .norm) dot ⌝ }
 {
     let n = row.norm;

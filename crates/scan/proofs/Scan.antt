@@ -23,7 +23,7 @@ use Rattle.rank.specs.Limit.{byKey}
 use Rattle.rank.specs.Rows.{passing}
 use Rattle.rank.specs.Pairs.{pack, pairs}
 use Rattle.rank.proofs.Rows.{passing-none, passing-pass}
-use Rattle.rank.proofs.Pairs.{keyed, pack-key, length-pairs, take-pairs, map-pairs, least-pack}
+use Rattle.rank.proofs.Pairs.{packed, pack-key, length-pairs, take-pairs, map-pairs, least-pack}
 use Rattle.rank.proofs.Bounded.{Holds, nothing}
 use Rattle.rank.proofs.Two.{passed2}
 use Rattle.rank.proofs.Scan.{keep-row, skip-row}
@@ -48,8 +48,8 @@ use Rattle.entries.proofs.Entries.{ids-rise}
 use Rattle.quantized_cache.specs.Open.{rowStart, cachedAt}
 use Rattle.quantized_cache.proofs.Opens.{Lies}
 use Rattle.resident.specs.Build.{residentAt}
-use Rattle.geometry.specs.Cache.{rowLength}
-use Rattle.rows.proofs.Joined.{part-ends}
+use Rattle.cache_format.specs.Cache.{rowLength}
+use Rattle.le.proofs.Joined.{part-ends}
 use Rattle.search_spec.specs.Lists.{approximateAt}
 use Rattle.search_spec.specs.Scan.{rowRefusal, rowsRefusal}
 use Rattle.scan.specs.Bar.{Bar, Keeps}
@@ -116,7 +116,7 @@ module _ (levels : ℕ) (m : List ℕ) (eligible : ℕ → Bool) (view : ℕ →
     pub bar : Bar ks n top
     pub word : getD rs 0 0 < 2 ^ 64
     pub reached : Reached (passes refusals) (rowsOf m) row
-    pub holds : Holds (map (keyed (nearKey m view query)) (passing eligible row)) (pairs ks rs) n
+    pub holds : Holds (map (packed (nearKey m view query)) (passing eligible row)) (pairs ks rs) n
 
   pub starts : (ks rs : List ℕ) {top : ℕ} → length ks ≡ length rs → Bar ks 0 top → getD rs 0 0 < 2 ^ 64 → Scanning (length ks) 0 ks rs 0 top
   starts ks rs same B w = record {
@@ -222,7 +222,7 @@ module _ {levels : ℕ} {m : List ℕ} {eligible : ℕ → Bool} {view : ℕ →
       let near : ℕ → ℕ = nearKey m view query in
       record {
         refusal = r;
-        count = omega (arith, H .count, length-map P (keyed near), l) ∙ sym (is-done (rowsRefusal levels m eligible view query) _ 0 z);
+        count = omega (arith, H .count, length-map P (packed near), l) ∙ sym (is-done (rowsRefusal levels m eligible view query) _ 0 z);
         total = (rw e at t) ∙ sym (is-done (rowsRefusal levels m eligible view query) _ 0 z);
         kept = λ t. ap (sort leb) (take-pairs n ks rs) ∙ H .kept ∙ rw l (least-pack near P (λ r i. omega (arith, passing-pass eligible (rowsOf m) r i)) limit)
             ∙ sym (map-pairs near (least (byKey near) limit P)) ∙ ap (λ c. pairs (map near c) c) (nearest-is levels m eligible view query ok z limit);

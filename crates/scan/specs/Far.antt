@@ -1,3 +1,4 @@
+-- Between functions: what they promise one another. No contract of an entry and no theorem rests on this file.
 -- Rows that are turned away under cosine without a root. What is promised of them is only that their distance is finite, so that they are not
 -- refused, and has a key over that of every row that is kept.
 use mathlib.Core.Path.{_≡_}

@@ -1,3 +1,4 @@
+-- Between functions: what they promise one another. No contract of an entry and no theorem rests on this file.
 -- What a scan returns and leaves in the slices for the candidates (document 01, What each place turns away, Search: "row by row 21 (every
 -- row) then 22 (eligible rows only)"; The report: "Candidates are the min(limit, eligible) least by approximate order"). One record, over
 -- rows that are seen as views; refusals, distances and their order are search_spec's.

@@ -21,7 +21,7 @@ ghost use Rattle.row.specs.Answer.{answer, viewOf, rowAnswer};
 ghost use Rattle.row.specs.Distance.{distanceOf};
 ghost use Rattle.cosine.specs.Far.{isFar};
 ghost use Rattle.format.specs.Fields.{rowsOf, dimensionsOf, metricAt};
-ghost use Rattle.format.specs.Layout.{Placed};
+ghost use Rattle.format.specs.Layout.{LaidOut};
 ghost use Rattle.entries.specs.Plan.{rowsOk};
 ghost use Rattle.quantized_cache.specs.Open.{RoomFor, cachedAt};
 ghost use Rattle.resident.specs.Build.{residentAt};
@@ -135,7 +135,8 @@ fn cached_entry(
     place: u64,
     t: u32,
 ) -> RowAnswer
-    requires { ⌜ (at + 16 + length (now q) ≤ length (now cache)) × (length (now q) ≤ 4096) × Levels levels × (0 < t → isCosine metric ≡ true) ⌝ }
+    requires { ⌜ (at + 16 + length (now q) ≤ length (now cache)) × (length (now q) ≤ 4096) × Levels levels
+        × (0 < t → isCosine metric ≡ true) ⌝ }
     requires { ⌜ (natAbs (query .norm) ≤ 9007199254740992) × (root ≡ sqrtOf (ofInt binary64 (query .norm))) × Small (now q) ⌝ }
     ensures { λ r. ⌜ Entered (query .norm) t (rowAnswer levels metric eligible place (rowAt (length (now (q .entry))) (now (cache .entry)) at) (viewOf (query .scale) (query .norm) (now (q .entry)))) r ⌝ }
 {
@@ -201,13 +202,14 @@ pub fn cached(
     ks: &mut [u64],
     rs: &mut [u64],
 ) -> Scanned
-    requires { ⌜ Placed (now m) layout × (rowsOk (now m) ≡ true) × Ascending leb (now sorted) × (length (now q) ≡ layout .dimensions) ⌝ }
-    requires { ⌜ Levels levels × (metric ≡ metricAt (now m)) × (length (now ks) ≡ length (now rs)) × RoomFor (length (now cache)) (layout .rows) (layout .dimensions) ⌝ }
+    requires { ⌜ LaidOut (now m) layout × (rowsOk (now m) ≡ true) × Ascending leb (now sorted) × (length (now q) ≡ layout .dimensions) ⌝ }
+    requires { ⌜ Levels levels × (metric ≡ metricAt (now m)) × (length (now ks) ≡ length (now rs))
+        × RoomFor (length (now cache)) (layout .rows) (layout .dimensions) ⌝ }
     requires { ⌜ (natAbs (query .norm) ≤ 9007199254740992) × (root ≡ sqrtOf (ofInt binary64 (query .norm))) × Small (now q) ⌝ }
     ensures { λ r. ⌜ ScanIs levels (now (m .entry)) (isEligible (given all (now (sorted .entry))) everyone (now (m .entry))) (cachedAt (rowsOf (now (m .entry))) (dimensionsOf (now (m .entry))) (now (cache .entry))) (viewOf (query .scale) (query .norm) (now (q .entry))) (length (now (ks .entry))) r (now (ks .exit)) (now (rs .exit)) ⌝ }
 {
     let rows = layout.rows;
-    let stride = geometry::row_length(q.len());
+    let stride = cache_format::row_length(q.len());
     let mut at = quantized_cache::rows_at(cache.len(), rows, q.len());
     let mut row = 0;
     let mut cursor = 0;
@@ -287,8 +289,10 @@ pub fn resident(
     ks: &mut [u64],
     rs: &mut [u64],
 ) -> Scanned
-    requires { ⌜ Placed (now m) layout × (rowsOk (now m) ≡ true) × Ascending leb (now sorted) × (length (now q) ≡ layout .dimensions) ⌝ }
-    requires { ⌜ Levels levels × (metric ≡ metricAt (now m)) × (length (now ks) ≡ length (now rs)) × (layout .rows * layout .dimensions ≤ length (now codes)) × (layout .rows ≤ length (now scales)) × (layout .rows ≤ length (now norms)) ⌝ }
+    requires { ⌜ LaidOut (now m) layout × (rowsOk (now m) ≡ true) × Ascending leb (now sorted) × (length (now q) ≡ layout .dimensions) ⌝ }
+    requires { ⌜ Levels levels × (metric ≡ metricAt (now m)) × (length (now ks) ≡ length (now rs))
+        × (layout .rows * layout .dimensions ≤ length (now codes)) × (layout .rows ≤ length (now scales))
+        × (layout .rows ≤ length (now norms)) ⌝ }
     requires { ⌜ (natAbs (query .norm) ≤ 9007199254740992) × (root ≡ sqrtOf (ofInt binary64 (query .norm))) × Small (now q) ⌝ }
     ensures { λ r. ⌜ ScanIs levels (now (m .entry)) (isEligible (given all (now (sorted .entry))) everyone (now (m .entry))) (residentAt (dimensionsOf (now (m .entry))) (now (codes .entry)) (now (scales .entry)) (now (norms .entry))) (viewOf (query .scale) (query .norm) (now (q .entry))) (length (now (ks .entry))) r (now (ks .exit)) (now (rs .exit)) ⌝ }
 {

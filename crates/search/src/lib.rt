@@ -25,7 +25,7 @@ const HANDED_IN: bool = false;
 // Over the rows of a cache.
 fn over_cache(
     agree: bool,
-    state: quantized_cache::State,
+    state: quantized_cache::CacheState,
     manifest: &[u8],
     segments: &[u8],
     cache: &[u8],
@@ -91,7 +91,7 @@ fn over_cache(
 // Over resident rows.
 fn over_resident(
     agree: bool,
-    state: resident::State,
+    state: resident::ResidentState,
     manifest: &[u8],
     segments: &[u8],
     codes: &[i8],
@@ -156,7 +156,7 @@ fn over_resident(
 
 // `CachedQuantizedSnapshot::search`.
 pub fn cached(
-    state: quantized_cache::State,
+    state: quantized_cache::CacheState,
     manifest: &[u8],
     segments: &[u8],
     cache: &[u8],
@@ -211,7 +211,7 @@ pub fn cached(
 
 // `CachedQuantizedSnapshot::search_ids`.
 pub fn cached_ids(
-    state: quantized_cache::State,
+    state: quantized_cache::CacheState,
     manifest: &[u8],
     segments: &[u8],
     cache: &[u8],
@@ -266,7 +266,7 @@ pub fn cached_ids(
 
 // `QuantizedSnapshot::search`.
 pub fn resident(
-    state: resident::State,
+    state: resident::ResidentState,
     manifest: &[u8],
     segments: &[u8],
     codes: &[i8],
@@ -325,7 +325,7 @@ pub fn resident(
 
 // `QuantizedSnapshot::search_ids`.
 pub fn resident_ids(
-    state: resident::State,
+    state: resident::ResidentState,
     manifest: &[u8],
     segments: &[u8],
     codes: &[i8],
@@ -384,7 +384,7 @@ pub fn resident_ids(
 
 // The agreement count of `cached`.
 pub fn agreement_cached(
-    state: quantized_cache::State,
+    state: quantized_cache::CacheState,
     manifest: &[u8],
     segments: &[u8],
     cache: &[u8],
@@ -438,7 +438,7 @@ pub fn agreement_cached(
 
 // The agreement count of `cached_ids`.
 pub fn agreement_cached_ids(
-    state: quantized_cache::State,
+    state: quantized_cache::CacheState,
     manifest: &[u8],
     segments: &[u8],
     cache: &[u8],
@@ -492,7 +492,7 @@ pub fn agreement_cached_ids(
 
 // The agreement count of `resident`.
 pub fn agreement_resident(
-    state: resident::State,
+    state: resident::ResidentState,
     manifest: &[u8],
     segments: &[u8],
     codes: &[i8],
@@ -550,7 +550,7 @@ pub fn agreement_resident(
 
 // The agreement count of `resident_ids`.
 pub fn agreement_resident_ids(
-    state: resident::State,
+    state: resident::ResidentState,
     manifest: &[u8],
     segments: &[u8],
     codes: &[i8],

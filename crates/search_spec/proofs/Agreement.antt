@@ -9,8 +9,8 @@ use lib.Dec.{leb, eqb}
 use lib.Ieee.{Float}
 use lib.ListN.{length, getD, take}
 use borrow.Author.Tests.{eqb-true, eqb-false, eq-eqb, ne-eqb}
+use Rattle.float.specs.Order.{keyed}
 use Rattle.le.proofs.Chain.{by, lt-or-le}
-use Rattle.float.proofs.Keys.{keyed}
 use Rattle.rank.specs.Sort.{_∈_, Pairwise, sort, least}
 use Rattle.rank.specs.Limit.{byKey, candidates, listed}
 use Rattle.rank.proofs.Members.{mem-getD}

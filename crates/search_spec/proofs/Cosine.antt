@@ -8,13 +8,13 @@ use lib.IntN.{ℤ, pos}
 use lib.ListN.{set, replicate, drop}
 use lib.Ieee.{Float, inf, fin}
 use Rattle.le.specs.Le.{bytes}
-use Rattle.float.specs.Values.{zero as nought, one, two}
+use Rattle.float.specs.Values.{plusZero, one, two}
 use Rattle.config.specs.Refusal.{none, refused}
 use Rattle.quantization.specs.View.{rowBytes}
 use Rattle.format.specs.Fields.{magic}
 use Rattle.format.specs.Head.{headAt}
-use Rattle.quantized_cache.specs.declared.State.{State as CacheState}
-use Rattle.resident.specs.declared.State.{State}
+use Rattle.quantized_cache.specs.declared.CacheState.{CacheState}
+use Rattle.resident.specs.declared.ResidentState.{ResidentState}
 use Rattle.search_spec.specs.declared.Report.{Report}
 use Rattle.search_spec.specs.declared.Agreed.{Agreed}
 use Rattle.search_spec.specs.Lent.{Wanted, every, only, Call, everyone}
@@ -71,7 +71,7 @@ abbrev norms : List ℤ
 norms = pos 16129 ∷ pos 32258 ∷ pos 16129 ∷ pos 7 ∷ []
 
 -- a state, by the lengths of the slices, and one of a cache
-abbrev state : ℕ → ℕ → ℕ → State
+abbrev state : ℕ → ℕ → ℕ → ResidentState
 state codes scales norms = record { head = headAt manifest; codes = codes; scales = scales; norms = norms }
 
 abbrev cacheState : ℕ → CacheState
@@ -113,7 +113,7 @@ pub record Cosine : Type 0 where
   -- k = 0, with a limit below the eligible count
   pub report-0 : search (near segments every 0 1) .report ≡ record { generation = 4; sequence = 9; eligible = 3; measured = 0; complete = true; approximate = false; count = 0 }
   -- 16, before 17: a zero query, one of another count, one that is not finite; a refused report
-  pub zero-16 : returned (search (call segments every (nought ∷ nought ∷ []) 10001 1)) ≡ record { refusal = refused 16 0; report = zeroReport }
+  pub zero-16 : returned (search (call segments every (plusZero ∷ plusZero ∷ []) 10001 1)) ≡ record { refusal = refused 16 0; report = zeroReport }
   pub count-16 : search (call segments every (one ∷ []) 1 1) .refusal ≡ refused 16 0
   pub infinite-16 : search (call segments every (one ∷ inf false ∷ []) 1 1) .refusal ≡ refused 16 0
   -- the same of a cache

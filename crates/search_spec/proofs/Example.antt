@@ -14,7 +14,7 @@ use Rattle.config.specs.Refusal.{refused}
 use Rattle.quantization.specs.View.{rowBytes}
 use Rattle.format.specs.Fields.{magic}
 use Rattle.format.specs.Head.{headAt}
-use Rattle.resident.specs.declared.State.{State}
+use Rattle.resident.specs.declared.ResidentState.{ResidentState}
 use Rattle.search_spec.specs.Lent.{Wanted, every, only, Call, everyone}
 use Rattle.search_spec.specs.Lists.{byOriginal}
 use Rattle.search_spec.specs.Outcome.{Outcome}
@@ -53,7 +53,7 @@ call limit =
       work = record { keys = 9 ∷ 9 ∷ 9 ∷ []; rows = 9 ∷ 9 ∷ 9 ∷ []; ids = [] };
     }
 
-abbrev state : State
+abbrev state : ResidentState
 state = record { head = headAt manifest; codes = 4; scales = 2; norms = 2 }
 
 abbrev outcome : ℕ → Outcome

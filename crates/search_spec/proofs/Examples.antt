@@ -32,7 +32,7 @@ use Rattle.format.specs.Same.{sameBytes, sameConfig, sameFields, sameHead}
 use Rattle.entries.specs.Plan.{rises, entryOk}
 use Rattle.segment.specs.Record.{startOf, recordAt, partsOk, recordOk}
 use Rattle.quantized_cache.specs.Open.{cacheLengthOk}
-use Rattle.resident.specs.Build.{lengthsOk as residentLengthsOk}
+use Rattle.resident.specs.Build.{residentLengthsOk}
 use Rattle.search_spec.specs.declared.Room.{Room}
 use Rattle.search_spec.specs.Lent.{wants}
 use Rattle.search_spec.specs.Tests.{idsOk, mostOk, limitOk, roomOk, openBy, queryBy, frontBy}

@@ -9,8 +9,8 @@ use lib.ListN.{length, getD}
 use lib.Ieee.{Float, nan, inf, fin}
 use lib.Ieee.Scale.{finite}
 use borrow.Author.Tests.{eqb-true}
+use Rattle.float.specs.Order.{keyed}
 use Rattle.le.proofs.Chain.{by}
-use Rattle.float.proofs.Keys.{keyed}
 use Rattle.float.proofs.BitLaws.{finite-number}
 use Rattle.rank.specs.Sort.{_∈_, sort, least}
 use Rattle.rank.specs.Rows.{passing}

@@ -10,7 +10,7 @@ use borrow.Author.Tests.{leb-true}
 use Rattle.le.specs.Le.{paste}
 use Rattle.le.proofs.Chain.{held}
 use Rattle.le.proofs.Pastes.{paste-first}
-use Rattle.float.specs.Values.{zero as nought}
+use Rattle.float.specs.Values.{plusZero}
 use Rattle.config.specs.Refusal.{refusedOr}
 use Rattle.config.specs.declared.Refusal.{Refusal}
 use Rattle.config.proofs.Refusals.{not-zero, none-refused, is-done}
@@ -102,7 +102,7 @@ module _ (head : Head) (rows : Rows) (c : Call) (h : Succeeds (searched head row
       rw (
         answers-are,
         pasted (a .ids) (λ p. p .id) ps i z 0 n,
-        pasted (a .distances) (λ p. p .distance) ps i z nought n,
+        pasted (a .distances) (λ p. p .distance) ps i z plusZero n,
         pasted (a .rows) (λ p. p .row) ps i z 0 n,
         pasted (a .starts) (λ p. p .start) ps i z 0 n,
         pasted (a .lengths) (λ p. p .length) ps i z 0 n,

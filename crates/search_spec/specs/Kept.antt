@@ -6,9 +6,9 @@ use lib.ListN.{length}
 use lib.Ieee.{Float}
 use Rattle.format.specs.Fields.{dimensionsOf, rowsOf}
 use Rattle.quantized_cache.specs.Open.{cachedAt, cacheLengthOk}
-use Rattle.quantized_cache.specs.declared.State.{State as CacheState}
-use Rattle.resident.specs.Build.{residentAt, lengthsOk}
-use Rattle.resident.specs.declared.State.{State as ResidentState}
+use Rattle.quantized_cache.specs.declared.CacheState.{CacheState}
+use Rattle.resident.specs.Build.{residentAt, residentLengthsOk}
+use Rattle.resident.specs.declared.ResidentState.{ResidentState}
 use Rattle.search_spec.specs.Lent.{Encoding, Rows, Call, base}
 use Rattle.search_spec.specs.Outcome.{Outcome, searched, agreed}
 
@@ -32,7 +32,7 @@ unfoldable pub residentRows : List ℕ → ResidentState → List ℤ → List F
 residentRows m state codes scales norms =
     record {
       encoding = residentEncoding state;
-      lengthOk = lengthsOk state (rowsOf m) (dimensionsOf m) (length codes) (length scales) (length norms);
+      lengthOk = residentLengthsOk state (rowsOf m) (dimensionsOf m) (length codes) (length scales) (length norms);
       at = residentAt (dimensionsOf m) codes scales norms;
     }
 

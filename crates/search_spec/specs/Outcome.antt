@@ -10,7 +10,7 @@ use Rattle.config.specs.declared.Refusal.{Refusal}
 use Rattle.format.specs.Fields.{generationOf, sequenceOf, idAt, metadataAt}
 use Rattle.format.specs.declared.Head.{Head}
 use Rattle.le.specs.Le.{paste, zeros}
-use Rattle.float.specs.Values.{zero}
+use Rattle.float.specs.Values.{plusZero}
 use Rattle.segment.specs.Record.{metadataStart}
 use Rattle.search_spec.specs.declared.Place.{Place}
 use Rattle.search_spec.specs.declared.Report.{Report}
@@ -136,7 +136,7 @@ Succeeds o = o .refusal .number ≡ 0
 abbrev pub shown : Outcome → ℕ → Place
 shown o i =
     let a = o .answers in
-    record { id = getD (a .ids) i 0; distance = getD (a .distances) i zero; row = getD (a .rows) i 0; start = getD (a .starts) i 0; length = getD (a .lengths) i 0 }
+    record { id = getD (a .ids) i 0; distance = getD (a .distances) i plusZero; row = getD (a .rows) i 0; start = getD (a .starts) i 0; length = getD (a .lengths) i 0 }
 
 abbrev pub shownRows : Outcome → List ℕ
 shownRows o = take (o .report .count) (o .answers .rows)

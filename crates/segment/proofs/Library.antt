@@ -26,13 +26,13 @@ use Rattle.manifest.proofs.Passed.{Planned, accepted, plans}
 use Rattle.manifest.proofs.Heads.{answered-head}
 use Rattle.manifest.proofs.Parts.{of-segment, in-segment}
 use Rattle.segment.specs.Record.{startOf, recordAt, recordOk}
-use Rattle.segment.specs.Check.{badRecord, segmentCrcOk, rowsRefusal, segmentRefusal, inOrder, segmentsRefusal, libraryRefusal, checkedLibrary}
+use Rattle.segment.specs.Check.{badRecord, segmentCrcOk, segmentRecordsRefusal, segmentRefusal, inOrder, segmentsRefusal, libraryRefusal, checkedLibrary}
 use Rattle.segment.proofs.Places.{record-within}
 
 -- a segment that is not refused: its rows' records pass, and its CRC-32
-rows-pass : (m s : List ℕ) (n : ℕ) (rows : List ℕ) → rowsRefusal m s n rows .number ≡ 0
+rows-pass : (m s : List ℕ) (n : ℕ) (rows : List ℕ) → segmentRecordsRefusal m s n rows .number ≡ 0
     → ((i : ℕ) → i < length rows → recordOk m s (getD rows i 0) ≡ true) × (segmentCrcOk m s n ≡ true)
-unfolding rowsRefusal
+unfolding segmentRecordsRefusal
 rows-pass m s n rows h =
     let a = held-number (eqb (badRecord m s rows) (length rows)) (cond (segmentCrcOk m s n) none (refused 6 n)) (refused 5 (getD rows (badRecord m s rows) 0)) not-zero h in
     let b = held-number (segmentCrcOk m s n) none (refused 6 n) not-zero (a .1) in
@@ -71,7 +71,7 @@ library-accepted m expected room s h =
 
 -- and what is such is accepted
 none-refused : (m : List ℕ) (expected room : ℕ) (s : List ℕ) → Accepted m expected room s → (n : ℕ) → n < segmentsOf m → segmentRefusal m s n ≡ none
-unfolding rowsRefusal
+unfolding segmentRecordsRefusal
 none-refused m expected room s a n k =
     let rows = inSegment m n in
     let each : (i : ℕ) → i < length rows → recordOk m s (getD rows i 0) ≡ true =

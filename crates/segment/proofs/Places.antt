@@ -10,7 +10,7 @@ use lib.ListN.{getD, set, replicate, List·getD-map, List·getD-append}
 use lib.Seq.{set-at, append-snoc}
 use Rattle.crc32.specs.Tables.{tab}
 use Rattle.crc32.proofs.Tab.{at, length-tab, tab-more}
-use Rattle.format.specs.Layout.{Placed}
+use Rattle.format.specs.Layout.{LaidOut}
 use Rattle.format.specs.declared.Layout.{Layout}
 use Rattle.le.proofs.Chain.{lt-or-le}
 use Rattle.format.specs.Fields.{segmentsOf, lengthOf, segmentAt, recordLength}
@@ -57,11 +57,11 @@ module _ (m : List ℕ) (ok : lengthsOk m ≡ true) where
   all-bound = start-bound (segmentsOf m) (omega arith)
 
 -- a record ends where it can be counted
-pub record-bound : {m : List ℕ} {l : Layout} → Placed m l → lengthsOk m ≡ true → (r : ℕ) → entryOk m r ≡ true → recordAt m r + recordLength m r ≤ 1024 * 67108864
+pub record-bound : {m : List ℕ} {l : Layout} → LaidOut m l → lengthsOk m ≡ true → (r : ℕ) → entryOk m r ≡ true → recordAt m r + recordLength m r ≤ 1024 * 67108864
 record-bound {m} p ok r h = let w = record-within m ok r h in let q = all-bound m ok in omega (arith, w, q, p .few)
 
 -- ---- the starts, one a turn
-pub next-start : (m : List ℕ) (l : Layout) → Placed m l → lengthsOk m ≡ true → {n sum x : ℕ} → n < l .segments → sum ≡ startOf m n → x ≡ lengthOf m n
+pub next-start : (m : List ℕ) (l : Layout) → LaidOut m l → lengthsOk m ≡ true → {n sum x : ℕ} → n < l .segments → sum ≡ startOf m n → x ≡ lengthOf m n
     → (sum + x ≡ startOf m (n + 1)) × (sum + x ≤ 1024 * 67108864)
 next-start m l p ok {n} {sum} {x} h e f =
     let g = start-more m n in
@@ -101,7 +101,7 @@ pub record Ends (m : List ℕ) (n size : ℕ) : Type 0 where
   pub within : startOf m n + lengthOf m n ≤ size
   pub bound : size ≤ 1024 * 67108864
 
-pub ends : (m : List ℕ) (l : Layout) → Placed m l → lengthsOk m ≡ true → (n size : ℕ) → n < l .segments → size ≡ startOf m (segmentsOf m) → Ends m n size
+pub ends : (m : List ℕ) (l : Layout) → LaidOut m l → lengthsOk m ≡ true → (n size : ℕ) → n < l .segments → size ≡ startOf m (segmentsOf m) → Ends m n size
 ends m l p ok n size h e =
     let k : n < segmentsOf m = omega (arith, h, p .segments) in
     let b = length-bounds m n ok k in

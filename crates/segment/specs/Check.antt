@@ -32,14 +32,14 @@ abbrev pub unlessAt : Bool → ℕ → ℕ → Refusal → Refusal
 unlessAt ok number place rest = cond ok rest (refused number place)
 
 -- the rows of segment n by offset, then its CRC-32
-unfoldable pub rowsRefusal : List ℕ → List ℕ → ℕ → List ℕ → Refusal
-rowsRefusal m s n rows =
+unfoldable pub segmentRecordsRefusal : List ℕ → List ℕ → ℕ → List ℕ → Refusal
+segmentRecordsRefusal m s n rows =
     let bad = badRecord m s rows in
     unlessAt (eqb bad (length rows)) 5 (getD rows bad 0)
     (unlessAt (segmentCrcOk m s n) 6 n none)
 
 abbrev pub segmentRefusal : List ℕ → List ℕ → ℕ → Refusal
-segmentRefusal m s n = rowsRefusal m s n (inSegment m n)
+segmentRefusal m s n = segmentRecordsRefusal m s n (inSegment m n)
 
 -- the first segment that is refused
 abbrev pub inOrder : List ℕ → List ℕ → Refusal
@@ -50,7 +50,7 @@ segmentsRefusal m s = cond (eqb (length s) (startOf m (segmentsOf m))) (inOrder 
 
 -- the manifest is tested anew first (readings R12)
 unfoldable pub libraryRefusal : List ℕ → ℕ → ℕ → List ℕ → Refusal
-libraryRefusal m expected room s = refusedOr (manifestNumber m expected room) (segmentsRefusal m s)
+libraryRefusal m expected scratch s = refusedOr (manifestNumber m expected scratch) (segmentsRefusal m s)
 
 abbrev pub checkedLibrary : List ℕ → ℕ → ℕ → List ℕ → Checked
-checkedLibrary m expected room s = checkedBy m (libraryRefusal m expected room s)
+checkedLibrary m expected scratch s = checkedBy m (libraryRefusal m expected scratch s)

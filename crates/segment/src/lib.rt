@@ -7,12 +7,12 @@ ghost use lib.ListN.{length};
 ghost use Rattle.crc32.specs.Tables.{slots};
 ghost use Rattle.format.specs.Fields.{segmentsOf, metricAt};
 ghost use Rattle.format.specs.Head.{headNumber, lengthsOk};
-ghost use Rattle.format.specs.Layout.{Placed};
+ghost use Rattle.format.specs.Layout.{LaidOut};
 ghost use Rattle.entries.specs.Plan.{rowsOk, entryOk};
 ghost use Rattle.manifest.specs.Scratch.{keyRow, Below, rowKeys};
 ghost use Rattle.manifest.specs.Check.{scratchAfter};
 ghost use Rattle.segment.specs.Record.{startOf, recordAt, metadataStart, partsOk, recordOk, startsOf};
-ghost use Rattle.segment.specs.Check.{badRecord, segmentCrcOk, rowsRefusal, inOrder, segmentsRefusal, checkedLibrary};
+ghost use Rattle.segment.specs.Check.{badRecord, segmentCrcOk, segmentRecordsRefusal, inOrder, segmentsRefusal, checkedLibrary};
 use config::Metric;
 use config::Refusal;
 use format::Layout;
@@ -28,7 +28,7 @@ fn wide(x: u32) -> usize
 
 // And where the last segment ends; zeros after it.
 pub fn starts(m: &[u8], layout: Layout) -> [u64; 1025]
-    requires { ⌜ Placed (now m) layout × (lengthsOk (now m) ≡ true) ⌝ }
+    requires { ⌜ LaidOut (now m) layout × (lengthsOk (now m) ≡ true) ⌝ }
     ensures { λ r. ⌜ r ≡ startsOf (now (m .entry)) ⌝ }
 {
     let mut starts = [0u64; 1025];
@@ -43,7 +43,8 @@ pub fn starts(m: &[u8], layout: Layout) -> [u64; 1025]
 }
 
 pub fn record_at(m: &[u8], layout: Layout, starts: &[u64; 1025], row: usize) -> usize
-    requires { ⌜ Placed (now m) layout × (lengthsOk (now m) ≡ true) × (now starts ≡ startsOf (now m)) × (row < layout .rows) × (entryOk (now m) row ≡ true) ⌝ }
+    requires { ⌜ LaidOut (now m) layout × (lengthsOk (now m) ≡ true) × (now starts ≡ startsOf (now m)) × (row < layout .rows)
+        × (entryOk (now m) row ≡ true) ⌝ }
     ensures { λ r. ⌜ r ≡ recordAt (now (m .entry)) row ⌝ }
 {
     let e = entries::read_entry(m, layout, row);
@@ -52,7 +53,8 @@ pub fn record_at(m: &[u8], layout: Layout, starts: &[u64; 1025], row: usize) -> 
 
 // Where the metadata of a row's record begin.
 pub fn metadata_start(m: &[u8], layout: Layout, starts: &[u64; 1025], row: usize) -> usize
-    requires { ⌜ Placed (now m) layout × (lengthsOk (now m) ≡ true) × (now starts ≡ startsOf (now m)) × (row < layout .rows) × (entryOk (now m) row ≡ true) ⌝ }
+    requires { ⌜ LaidOut (now m) layout × (lengthsOk (now m) ≡ true) × (now starts ≡ startsOf (now m)) × (row < layout .rows)
+        × (entryOk (now m) row ≡ true) ⌝ }
     ensures { λ r. ⌜ r ≡ metadataStart (now (m .entry)) row ⌝ }
 {
     record_at(m, layout, starts, row) + 12 + 4 * layout.dimensions
@@ -89,7 +91,8 @@ pub fn record_holds(
     s: &[u8],
     row: usize,
 ) -> bool
-    requires { ⌜ Placed (now m) layout × (metric ≡ metricAt (now m)) × (lengthsOk (now m) ≡ true) × (now starts ≡ startsOf (now m)) × (row < layout .rows) × (entryOk (now m) row ≡ true) ⌝ }
+    requires { ⌜ LaidOut (now m) layout × (metric ≡ metricAt (now m)) × (lengthsOk (now m) ≡ true) × (now starts ≡ startsOf (now m))
+        × (row < layout .rows) × (entryOk (now m) row ≡ true) ⌝ }
     ensures { λ r. ⌜ r ≡ recordOk (now (m .entry)) (now (s .entry)) row ⌝ }
 {
     let e = entries::read_entry(m, layout, row);
@@ -110,7 +113,8 @@ pub fn bad_record(
     s: &[u8],
     keys: &[u64],
 ) -> usize
-    requires { ⌜ Placed (now m) layout × (metric ≡ metricAt (now m)) × (rowsOk (now m) ≡ true) × (now starts ≡ startsOf (now m)) × Below (layout .rows) (now keys) ⌝ }
+    requires { ⌜ LaidOut (now m) layout × (metric ≡ metricAt (now m)) × (rowsOk (now m) ≡ true) × (now starts ≡ startsOf (now m))
+        × Below (layout .rows) (now keys) ⌝ }
     ensures { λ r. ⌜ r ≡ badRecord (now (m .entry)) (now (s .entry)) (map keyRow (now (keys .entry))) ⌝ }
 {
     let mut i = 0;
@@ -133,7 +137,8 @@ fn crc_holds(
     s: &[u8],
     n: usize,
 ) -> bool
-    requires { ⌜ Placed (now m) layout × (rowsOk (now m) ≡ true) × (now starts ≡ startsOf (now m)) × (now tables ≡ slots) × (n < layout .segments) × (length (now s) ≡ startOf (now m) (segmentsOf (now m))) ⌝ }
+    requires { ⌜ LaidOut (now m) layout × (rowsOk (now m) ≡ true) × (now starts ≡ startsOf (now m)) × (now tables ≡ slots)
+        × (n < layout .segments) × (length (now s) ≡ startOf (now m) (segmentsOf (now m))) ⌝ }
     ensures { λ r. ⌜ r ≡ segmentCrcOk (now (m .entry)) (now (s .entry)) n ⌝ }
 {
     let from = starts[n] as usize;
@@ -153,8 +158,10 @@ fn rows_refusal(
     keys: &[u64],
     n: usize,
 ) -> Refusal
-    requires { ⌜ Placed (now m) layout × (metric ≡ metricAt (now m)) × (rowsOk (now m) ≡ true) × (now starts ≡ startsOf (now m)) × (now tables ≡ slots) × Below (layout .rows) (now keys) × (n < layout .segments) × (length (now s) ≡ startOf (now m) (segmentsOf (now m))) ⌝ }
-    ensures { λ r. ⌜ r ≡ rowsRefusal (now (m .entry)) (now (s .entry)) n (map keyRow (now (keys .entry))) ⌝ }
+    requires { ⌜ LaidOut (now m) layout × (metric ≡ metricAt (now m)) × (rowsOk (now m) ≡ true) × (now starts ≡ startsOf (now m))
+        × (now tables ≡ slots) × Below (layout .rows) (now keys) × (n < layout .segments)
+        × (length (now s) ≡ startOf (now m) (segmentsOf (now m))) ⌝ }
+    ensures { λ r. ⌜ r ≡ segmentRecordsRefusal (now (m .entry)) (now (s .entry)) n (map keyRow (now (keys .entry))) ⌝ }
 {
     let bad = bad_record(m, layout, metric, starts, s, keys);
     if bad < keys.len() {
@@ -183,7 +190,8 @@ fn in_order(
     s: &[u8],
     keys: &[u64],
 ) -> Refusal
-    requires { ⌜ Placed (now m) layout × (metric ≡ metricAt (now m)) × (rowsOk (now m) ≡ true) × (now starts ≡ startsOf (now m)) × (now keys ≡ rowKeys (now m)) × (length (now s) ≡ startOf (now m) (segmentsOf (now m))) ⌝ }
+    requires { ⌜ LaidOut (now m) layout × (metric ≡ metricAt (now m)) × (rowsOk (now m) ≡ true) × (now starts ≡ startsOf (now m))
+        × (now keys ≡ rowKeys (now m)) × (length (now s) ≡ startOf (now m) (segmentsOf (now m))) ⌝ }
     ensures { λ r. ⌜ r ≡ inOrder (now (m .entry)) (now (s .entry)) ⌝ }
 {
     let tables = crc32::tables();
@@ -223,7 +231,8 @@ fn segments_refusal(m: &[u8], s: &[u8], keys: &[u64]) -> Refusal
 // ---- The check.
 
 pub fn check(manifest: &[u8], expected_crc: u32, scratch: &mut [u64], segments: &[u8]) -> Checked
-    ensures { λ r. ⌜ (r ≡ checkedLibrary (now (manifest .entry)) «expected_crc» (length (now (scratch .entry))) (now (segments .entry))) × (now (scratch .exit) ≡ scratchAfter (now (manifest .entry)) «expected_crc» (now (scratch .entry))) ⌝ }
+    ensures { λ r. ⌜ (r ≡ checkedLibrary (now (manifest .entry)) «expected_crc» (length (now (scratch .entry))) (now (segments .entry)))
+        × (now (scratch .exit) ≡ scratchAfter (now (manifest .entry)) «expected_crc» (now (scratch .entry))) ⌝ }
 {
     let number = manifest::accept(manifest, expected_crc, scratch);
     if number != 0 {

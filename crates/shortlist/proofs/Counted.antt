@@ -1,4 +1,4 @@
--- Kept rows by original order, and their agreement with all eligible rows.
+-- KeptRows rows by original order, and their agreement with all eligible rows.
 use mathlib.Core.Path.{_≡_, refl, sym, ap, _∙_}
 use mathlib.Core.Bool.{Bool, true, false, cond}
 use mathlib.Core.Logic.{⊎-elim}
@@ -32,7 +32,7 @@ use Rattle.rerank.specs.declared.Reranked.{Reranked}
 use Rattle.rerank.proofs.Ranked.{by-key}
 use Rattle.agreement.specs.Count.{Listed, CountIs, allRanked}
 use Rattle.agreement.specs.declared.Counted.{Counted}
-use Rattle.shortlist.specs.Shortlist.{Kept, refusedWith, RankedIs}
+use Rattle.shortlist.specs.Shortlist.{KeptRows, refusedWith, RankedIs}
 
 -- refused, by the records or by what comes before them
 pub turned : {first f : Refusal} {agree : Bool} {k : ℕ} {m s : List ℕ} {q : List Float} {eligible : ℕ → Bool} {C ks rs : List ℕ}
@@ -47,7 +47,7 @@ turned {f} {agree} {k} {m} {s} {q} {eligible} {C} is some = record {
 }
 
 -- the rows `given` are kept, and the rerank returned r and left e and f
-module _ {m : List ℕ} {eligible : ℕ → Bool} {total : ℕ} {given : List ℕ} (K : Kept m eligible total given) where
+module _ {m : List ℕ} {eligible : ℕ → Bool} {total : ℕ} {given : List ℕ} (K : KeptRows m eligible total given) where
   abbrev P : List ℕ
   P = passing eligible (rowsOf m)
 

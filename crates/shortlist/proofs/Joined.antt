@@ -26,7 +26,7 @@ use Rattle.search_spec.specs.Lists.{byApproximate}
 use Rattle.search_spec.specs.Scan.{rowsRefusal, recordsRefusal}
 use Rattle.scan.specs.Scan.{nearKey, nearest, ScanIs}
 use Rattle.scan.specs.declared.Scanned.{Scanned as Found}
-use Rattle.shortlist.specs.Shortlist.{Kept, refusedWith, RankedIs, ShortlistIs}
+use Rattle.shortlist.specs.Shortlist.{KeptRows, refusedWith, RankedIs, ShortlistIs}
 use Rattle.shortlist.specs.declared.Shortlisted.{Shortlisted}
 use Rattle.shortlist.proofs.Counted.{turned}
 
@@ -81,7 +81,7 @@ module _ {levels : ℕ} {m : List ℕ} {eligible : ℕ → Bool} {view : ℕ →
         (cut-keys ∙ sym cut-rows) (length-map C (nearKey m view query))
         (λ n h. all-at (λ z. z < 2 ^ 64) rs 0 (λ i l. H .words i) n (mem-take n (r .count) rs h)) (λ n h. let l = passing-pass eligible (rowsOf m) n (in-P n h) .0 in let f = H .few in omega arith) (S .kept z)
 
-    pub kept : Kept m eligible (r .eligible) (take (r .count) rs)
+    pub kept : KeptRows m eligible (r .eligible) (take (r .count) rs)
     kept = record {
       total = S .total ∙ is-done first (length P) 0 no-first;
       once = rw rows-are (distinct-sort leb C once-C);

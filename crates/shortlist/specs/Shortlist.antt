@@ -1,3 +1,4 @@
+-- Between functions: what they promise one another. No contract of an entry and no theorem rests on this file.
 -- What scan, rerank and agreement count return together (document 01, What each place turns away, Search: "row by row 21 (every row) then 22
 -- (eligible rows only), and last, by rising row of the candidates, 23 then 24"; The report: "the list is the min(k, eligible) least of those by
 -- original order"; "an agreement count: .. refusing as a search does, 23 and 24 over all eligible rows").
@@ -23,7 +24,7 @@ use Rattle.agreement.specs.Count.{allRanked}
 use Rattle.shortlist.specs.declared.Shortlisted.{Shortlisted}
 
 -- what a scan hands on: how many rows are eligible, and some of these, in any order, each once
-pub record Kept (m : List ℕ) (eligible : ℕ → Bool) (n : ℕ) (rs : List ℕ) : Type 0 where
+pub record KeptRows (m : List ℕ) (eligible : ℕ → Bool) (n : ℕ) (rs : List ℕ) : Type 0 where
   pub total : n ≡ length (passing eligible (rowsOf m))
   pub once : Distinct (sort leb rs)
   pub within : (r : ℕ) → r ∈ rs → r ∈ passing eligible (rowsOf m)

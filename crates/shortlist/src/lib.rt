@@ -19,7 +19,7 @@ ghost use Rattle.resident.specs.Build.{residentAt};
 ghost use Rattle.search_spec.specs.Lent.{given, everyone};
 ghost use Rattle.search_spec.specs.Lists.{isEligible};
 ghost use Rattle.rerank.specs.Rerank.{Located, Asked};
-ghost use Rattle.shortlist.specs.Shortlist.{Kept, refusedWith, RankedIs, ShortlistIs};
+ghost use Rattle.shortlist.specs.Shortlist.{KeptRows, refusedWith, RankedIs, ShortlistIs};
 use config::Metric;
 use config::Refusal;
 use format::Layout;
@@ -62,7 +62,8 @@ fn behind(
     rs: &mut [u64],
 ) -> Shortlisted
     requires { ⌜ Located (now m) layout metric (now starts) × Asked (now m) metric (now vector) inverse × Ascending leb (now sorted) ⌝ }
-    requires { ⌜ (length (now ks) ≡ length (now rs)) × Kept (now m) (isEligible (given all (now sorted)) everyone (now m)) total (now rs) ⌝ }
+    requires { ⌜ (length (now ks) ≡ length (now rs))
+        × KeptRows (now m) (isEligible (given all (now sorted)) everyone (now m)) total (now rs) ⌝ }
     ensures { λ r. ⌜ ((C : List ℕ) → sort leb (now (rs .entry)) ≡ sort leb C → RankedIs none agree k (now (m .entry)) (now (s .entry)) (now (vector .entry)) (isEligible (given all (now (sorted .entry))) everyone (now (m .entry))) C r (now (ks .exit)) (now (rs .exit))) ⌝ }
 {
     let r = rerank::rerank(m, layout, metric, starts, s, vector, inverse, ks, rs);
@@ -130,7 +131,8 @@ pub fn cached(
 ) -> Shortlisted
     requires { ⌜ Located (now m) layout metric (now starts) × Asked (now m) metric (now vector) inverse × Ascending leb (now sorted) ⌝ }
     requires { ⌜ Levels levels × (length (now ks) ≡ length (now rs)) × RoomFor (length (now cache)) (layout .rows) (layout .dimensions) ⌝ }
-    requires { ⌜ (length (now q) ≡ layout .dimensions) × (natAbs (query .norm) ≤ 9007199254740992) × (root ≡ sqrtOf (ofInt binary64 (query .norm))) × Small (now q) ⌝ }
+    requires { ⌜ (length (now q) ≡ layout .dimensions) × (natAbs (query .norm) ≤ 9007199254740992)
+        × (root ≡ sqrtOf (ofInt binary64 (query .norm))) × Small (now q) ⌝ }
     ensures { λ r. ⌜ ShortlistIs agree k levels (now (m .entry)) (now (s .entry)) (now (vector .entry)) (isEligible (given all (now (sorted .entry))) everyone (now (m .entry))) (cachedAt (rowsOf (now (m .entry))) (dimensionsOf (now (m .entry))) (now (cache .entry))) (viewOf (query .scale) (query .norm) (now (q .entry))) (length (now (ks .entry))) r (now (ks .exit)) (now (rs .exit)) ⌝ }
 {
     let r = scan::cached(
@@ -194,8 +196,10 @@ pub fn resident(
     rs: &mut [u64],
 ) -> Shortlisted
     requires { ⌜ Located (now m) layout metric (now starts) × Asked (now m) metric (now vector) inverse × Ascending leb (now sorted) ⌝ }
-    requires { ⌜ Levels levels × (length (now ks) ≡ length (now rs)) × (layout .rows * layout .dimensions ≤ length (now codes)) × (layout .rows ≤ length (now scales)) × (layout .rows ≤ length (now norms)) ⌝ }
-    requires { ⌜ (length (now q) ≡ layout .dimensions) × (natAbs (query .norm) ≤ 9007199254740992) × (root ≡ sqrtOf (ofInt binary64 (query .norm))) × Small (now q) ⌝ }
+    requires { ⌜ Levels levels × (length (now ks) ≡ length (now rs)) × (layout .rows * layout .dimensions ≤ length (now codes))
+        × (layout .rows ≤ length (now scales)) × (layout .rows ≤ length (now norms)) ⌝ }
+    requires { ⌜ (length (now q) ≡ layout .dimensions) × (natAbs (query .norm) ≤ 9007199254740992)
+        × (root ≡ sqrtOf (ofInt binary64 (query .norm))) × Small (now q) ⌝ }
     ensures { λ r. ⌜ ShortlistIs agree k levels (now (m .entry)) (now (s .entry)) (now (vector .entry)) (isEligible (given all (now (sorted .entry))) everyone (now (m .entry))) (residentAt (dimensionsOf (now (m .entry))) (now (codes .entry)) (now (scales .entry)) (now (norms .entry))) (viewOf (query .scale) (query .norm) (now (q .entry))) (length (now (ks .entry))) r (now (ks .exit)) (now (rs .exit)) ⌝ }
 {
     let r = scan::resident(

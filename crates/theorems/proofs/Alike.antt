@@ -5,7 +5,7 @@ use Prim.Native.Nat.{ℕ, _<_}
 use lib.IntN.{ℤ}
 use lib.ListN.{length, getD}
 use lib.Ieee.{Float}
-use Rattle.float.specs.Values.{zero}
+use Rattle.float.specs.Values.{plusZero}
 use Rattle.rank.specs.Sort.{_∈_, least}
 use Rattle.rank.specs.Order.{byDistance}
 use Rattle.rank.proofs.Agree.{least-agree}
@@ -13,8 +13,8 @@ use Rattle.config.specs.declared.Refusal.{Refusal}
 use Rattle.format.specs.Fields.{rowsOf}
 use Rattle.format.specs.declared.Head.{Head}
 use Rattle.format.proofs.Refusals.{refusals-agree}
-use Rattle.quantized_cache.specs.declared.State.{State as CacheState}
-use Rattle.resident.specs.declared.State.{State as ResidentState}
+use Rattle.quantized_cache.specs.declared.CacheState.{CacheState}
+use Rattle.resident.specs.declared.ResidentState.{ResidentState}
 use Rattle.search_spec.specs.Lent.{Rows, Call}
 use Rattle.search_spec.specs.Tests.{frontNumber}
 use Rattle.search_spec.specs.Lists.{isEligible, eligibleRows, encoded, approximateAt, byApproximate, byOriginal, candidateRows, listedRows}
@@ -86,7 +86,7 @@ same-alike e =
       agreement = ap (λ (x : Outcome). x .agreement) e;
       ids = ap (λ (x : Outcome). x .answers .ids) e;
       distances = ap (λ (x : Outcome). length (x .answers .distances)) e;
-      bits = λ i. let d = ap (λ (x : Outcome). getD (x .answers .distances) i zero) e in rw d;
+      bits = λ i. let d = ap (λ (x : Outcome). getD (x .answers .distances) i plusZero) e in rw d;
       rows = ap (λ (x : Outcome). x .answers .rows) e;
       starts = ap (λ (x : Outcome). x .answers .starts) e;
       lengths = ap (λ (x : Outcome). x .answers .lengths) e;

@@ -15,7 +15,7 @@ use Rattle.le.specs.Le.{le as number, bytes}
 use Rattle.utf8.specs.Grammar.{span}
 use Rattle.utf8.specs.Utf8.{valid}
 use Rattle.crc32.specs.Crc.{step, steps, update, crc32, endsInCrc}
-use Rattle.float.specs.Values.{zero, one}
+use Rattle.float.specs.Values.{plusZero, one}
 use Rattle.float.specs.Hold.{maxZero}
 use Rattle.float.specs.Order.{totalBelow}
 use Rattle.rank.specs.Sort.{insert, sort, least}
@@ -36,20 +36,20 @@ use Rattle.format.specs.Fields.{magic, generationOf, sequenceOf, dimensionsOf, 
 use Rattle.format.specs.Head.{opensOk, kindOk, identityOk, countsOk, headNumber, lengthsOk}
 use Rattle.format.proofs.Heads.{both}
 use Rattle.entries.specs.Plan.{rises, entryOk, rowsOk, crcOk, planNumber}
-use Rattle.geometry.specs.Sizing.{defaultOptions, boundsNumber, limitsNumber, sizingNumber}
+use Rattle.cache_format.specs.Sizing.{defaultOptions, boundsNumber, limitsNumber, sizingNumber}
 use Rattle.manifest.specs.Tiling.{position, physical, inSegment, follow, covers, tiled}
 use Rattle.manifest.specs.Check.{manifestNumber}
 use Rattle.segment.specs.Record.{startOf, recordAt, partsOk, recordOk}
-use Rattle.segment.specs.Check.{segmentCrcOk, rowsRefusal, segmentsRefusal, libraryRefusal}
+use Rattle.segment.specs.Check.{segmentCrcOk, segmentRecordsRefusal, segmentsRefusal, libraryRefusal}
 use Rattle.quantized_cache.specs.Size.{sizeOf, sizingOf}
 use Rattle.quantized_cache.specs.Open.{stateOf}
 use Rattle.quantized_cache.specs.declared.Opened.{Opened}
-use Rattle.quantized_cache.specs.declared.State.{State as CacheState}
+use Rattle.quantized_cache.specs.declared.CacheState.{CacheState}
 use Rattle.prepare.specs.Prepare.{prepareRefusal, cacheAfter}
 use Rattle.prepare.proofs.Accepted.{accepted-prepared}
-use Rattle.resident.specs.Build.{roomNumber, buildRefusal, builtBy, codesAfter, scalesAfter, normsAfter}
+use Rattle.resident.specs.Build.{residentRoomNumber, buildRefusal, builtBy, codesAfter, scalesAfter, normsAfter}
 use Rattle.resident.proofs.Theorems.{accepted-built}
-use Rattle.rows.specs.Rows.{rowOf}
+use Rattle.encoded_rows.specs.Rows.{rowOf}
 use Rattle.search_spec.specs.Lent.{Rows, Call, base, every, wants, callOf, answersOf, workOf}
 use Rattle.search_spec.specs.Lists.{isEligible, eligible, eligibleRows, encoded, approximateAt, originalAt, byOriginal, candidateRows, listedRows}
 use Rattle.search_spec.specs.Outcome.{Succeeds, shownRows}
@@ -83,7 +83,7 @@ segments =
     ++ bytes 4 0x890b269e
 
 passes : libraryRefusal manifest crc 2 segments .number ≡ 0
-unfolding span number bytes valid metricOf validConfig validSpace all validVector patternsAt firstFrom generationOf sequenceOf dimensionsOf mOf efOf seedOf metricByte metricAt modelLength modelOf segmentsOf rowsOf tableAt entriesAt lengthOf idAt segmentAt offsetAt metadataAt recordLength opensOk kindOk identityOk countsOk headNumber lengthsOk rises entryOk startOf recordAt partsOk recordOk ofBits eq libraryRefusal manifestNumber planNumber rowsOk crcOk endsInCrc crc32 update steps step tiled covers follow inSegment physical position segmentsRefusal firstRefusal rowsRefusal segmentCrcOk storedCrc crcOf sort insert passing byKey
+unfolding span number bytes valid metricOf validConfig validSpace all validVector patternsAt firstFrom generationOf sequenceOf dimensionsOf mOf efOf seedOf metricByte metricAt modelLength modelOf segmentsOf rowsOf tableAt entriesAt lengthOf idAt segmentAt offsetAt metadataAt recordLength opensOk kindOk identityOk countsOk headNumber lengthsOk rises entryOk startOf recordAt partsOk recordOk ofBits eq libraryRefusal manifestNumber planNumber rowsOk crcOk endsInCrc crc32 update steps step tiled covers follow inSegment physical position segmentsRefusal firstRefusal segmentRecordsRefusal segmentCrcOk storedCrc crcOf sort insert passing byKey
 passes = refl
 
 accepted : Accepted manifest segments
@@ -118,7 +118,7 @@ abbrev preparing : Refusal
 preparing = prepareRefusal manifest crc 2 segments platform root defaultOptions 400
 
 prepares : preparing .number ≡ 0
-unfolding number bytes rowsOf dimensionsOf modelLength sizingOf sizingNumber boundsNumber limitsNumber
+unfolding span number bytes rowsOf dimensionsOf modelLength sizingOf sizingNumber boundsNumber limitsNumber
 prepares = ap (λ (r : Refusal). r .number) (accepted-prepared manifest crc 2 segments passes 2 two-rows platform root defaultOptions 400)
 
 abbrev cache : List ℕ
@@ -163,7 +163,7 @@ abbrev building : Refusal
 building = buildRefusal manifest crc 2 segments 4 2 2
 
 builds : building .number ≡ 0
-unfolding number bytes rowsOf dimensionsOf modelLength roomNumber
+unfolding number bytes rowsOf dimensionsOf modelLength residentRoomNumber
 builds = ap (λ (r : Refusal). r .number) (accepted-built manifest crc 2 segments passes 2 two-rows 4 2 2)
 
 abbrev integers : ℕ → List ℤ
@@ -189,7 +189,7 @@ built = record {
 -- ---- calls with the query (127, 0), k 1
 abbrev call : ℕ → Call
 call limit =
-    callOf manifest segments every (fin false 127 (pos 0) ∷ zero ∷ []) 1 limit (answersOf (9 ∷ []) (one ∷ []) (9 ∷ []) (9 ∷ []) (9 ∷ []))
+    callOf manifest segments every (fin false 127 (pos 0) ∷ plusZero ∷ []) 1 limit (answersOf (9 ∷ []) (one ∷ []) (9 ∷ []) (9 ∷ []) (9 ∷ []))
     (workOf (9 ∷ 9 ∷ []) (9 ∷ 9 ∷ []) [])
 
 answerable : (limit : ℕ) → 1 ≤ limit → limit ≤ 65536 → Answerable (call limit)

@@ -34,8 +34,8 @@ use Rattle.segment.proofs.Library.{Accepted as Library, library-accepted}
 use Rattle.segment.proofs.Records.{good}
 use Rattle.math.proofs.Distances.{original-in}
 use Rattle.row.proofs.Finite.{encoded-none}
-use Rattle.quantized_cache.specs.declared.State.{State as CacheState}
-use Rattle.resident.specs.declared.State.{State as ResidentState}
+use Rattle.quantized_cache.specs.declared.CacheState.{CacheState}
+use Rattle.resident.specs.declared.ResidentState.{ResidentState}
 use Rattle.search_spec.specs.Lent.{Rows, Call, handed}
 use Rattle.search_spec.specs.Tests.{roomOf, roomOk, openBy, queryBy, frontBy, frontNumber}
 use Rattle.search_spec.specs.Lists.{isEligible, eligibleRows, encoded, originalAt, candidateRows}

@@ -23,8 +23,8 @@ use Rattle.format.specs.declared.Head.{Head}
 use Rattle.format.proofs.Same.{same-parts}
 use Rattle.entries.specs.Plan.{rowsOk}
 use Rattle.entries.proofs.Entries.{rows-by, ids-rise}
-use Rattle.quantized_cache.specs.declared.State.{State as CacheState}
-use Rattle.resident.specs.declared.State.{State as ResidentState}
+use Rattle.quantized_cache.specs.declared.CacheState.{CacheState}
+use Rattle.resident.specs.declared.ResidentState.{ResidentState}
 use Rattle.search_spec.specs.Lent.{Rows, Call}
 use Rattle.search_spec.specs.Tests.{frontNumber}
 use Rattle.search_spec.specs.Lists.{isEligible, eligible, eligibleRows, encoded, originalAt, byApproximate, byOriginal, candidateRows, listedRows}

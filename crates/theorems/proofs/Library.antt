@@ -18,13 +18,13 @@ use Rattle.manifest.proofs.Heads.{checked-head}
 use Rattle.segment.proofs.Places.{record-within}
 use Rattle.segment.proofs.Library.{Accepted as Passed, library-accepted, accepted-library, library-head}
 use Rattle.quantized_cache.specs.Open.{stateOf, openedBy, opened}
-use Rattle.quantized_cache.specs.declared.State.{State as CacheState}
+use Rattle.quantized_cache.specs.declared.CacheState.{CacheState}
 use Rattle.quantized_cache.specs.declared.Opened.{Opened}
 use Rattle.quantized_cache.proofs.Succeeds.{opened-head}
 use Rattle.prepare.proofs.Opened.{prepared-opened}
 use Rattle.prepare.proofs.Accepted.{accepted-prepared, never-5 as never-5-prepared}
 use Rattle.resident.proofs.Theorems.{built-rows, built-head, accepted-built, never-5 as never-5-built}
-use Rattle.resident.specs.declared.State.{State as ResidentState}
+use Rattle.resident.specs.declared.ResidentState.{ResidentState}
 use Rattle.theorems.specs.Words.{Bytes, Accepted, LeftByPreparing, Opens, LeftByBuilding}
 use Rattle.theorems.specs.Library.{Sound, Placed, Unchanged, Library}
 use Rattle.theorems.proofs.Own.{prepared-passes, prepared-is, cached-rows, built-passes, resident-rows}

@@ -13,14 +13,14 @@ use Rattle.format.specs.Fields.{dimensionsOf, rowsOf}
 use Rattle.format.specs.Head.{headAt}
 use Rattle.quantized_cache.specs.Size.{sizeOf}
 use Rattle.quantized_cache.specs.Open.{cachedAt, openedBy}
-use Rattle.quantized_cache.specs.declared.State.{State as CacheState}
+use Rattle.quantized_cache.specs.declared.CacheState.{CacheState}
 use Rattle.quantized_cache.specs.declared.Opened.{Opened}
 use Rattle.quantized_cache.proofs.Succeeds.{opened-is, opened-length}
 use Rattle.prepare.specs.Prepare.{prepareRefusal, cacheAfter}
 use Rattle.prepare.proofs.Opened.{prepared-slice, prepared-rows}
-use Rattle.rows.specs.Rows.{rowOf}
-use Rattle.resident.specs.Build.{buildRefusal, zeroState, answered, residentAt}
-use Rattle.resident.specs.declared.State.{State as ResidentState}
+use Rattle.encoded_rows.specs.Rows.{rowOf}
+use Rattle.resident.specs.Build.{buildRefusal, zeroResidentState, residentAnswer, residentAt}
+use Rattle.resident.specs.declared.ResidentState.{ResidentState}
 use Rattle.resident.proofs.Theorems.{built-rows, built-held}
 use Rattle.search_spec.specs.Lent.{Rows, base}
 use Rattle.search_spec.specs.Kept.{cachedRows, residentRows}
@@ -68,10 +68,10 @@ module _ (m s : List ℕ) (state : ResidentState) (codes : List ℤ) (scales : L
   built-passes = rw (b .returned) at (b .passes)
 
   pub built-head : state .head ≡ headAt m
-  unfolding answered
+  unfolding residentAnswer
   built-head =
       let built : ResidentState = record { head = headAt m; codes = length (b .lentCodes); scales = length (b .lentScales); norms = length (b .lentNorms) } in
-      ap (λ (x : ResidentState). x .head) (b .state-returned ∙ is-done (b .refusal) built zeroState (b .passes))
+      ap (λ (x : ResidentState). x .head) (b .state-returned ∙ is-done (b .refusal) built zeroResidentState (b .passes))
 
   pub resident-rows : (r : ℕ) → r < rowsOf m → residentAt (dimensionsOf m) codes scales norms r ≡ rowOf baseLevels midpoints m s r
   resident-rows r l = rw (b .codes-left, b .scales-left, b .norms-left) (built-rows baseLevels midpoints m s (b .refusal) (b .passes) (b .lentCodes) (b .lentScales) (b .lentNorms) r l)

@@ -13,8 +13,8 @@ use lib.Ieee.{Float}
 use Rattle.rank.specs.Sort.{_∈_, Distinct}
 use Rattle.config.specs.Refusal.{none}
 use Rattle.format.specs.Fields.{generationOf, sequenceOf}
-use Rattle.quantized_cache.specs.declared.State.{State as CacheState}
-use Rattle.resident.specs.declared.State.{State as ResidentState}
+use Rattle.quantized_cache.specs.declared.CacheState.{CacheState}
+use Rattle.resident.specs.declared.ResidentState.{ResidentState}
 use Rattle.search_spec.specs.Lent.{Call}
 use Rattle.search_spec.specs.Lists.{eligibleRows}
 use Rattle.search_spec.specs.Outcome.{Outcome, placeOf, Succeeds, shown, shownRows}

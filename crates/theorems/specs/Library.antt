@@ -17,18 +17,18 @@ use Rattle.format.specs.Fields.{dimensionsOf, segmentsOf, rowsOf, tableAt, leng
 use Rattle.format.specs.Head.{headNumber, headAt, zeroHead}
 use Rattle.format.specs.Same.{sameHead}
 use Rattle.entries.specs.Plan.{rowsOk, crcOk}
-use Rattle.geometry.specs.declared.Options.{Options}
+use Rattle.cache_format.specs.declared.Options.{Options}
 use Rattle.manifest.specs.Tiling.{tiled}
 use Rattle.manifest.specs.Check.{checked}
 use Rattle.segment.specs.Record.{startOf, recordAt, recordOk}
 use Rattle.segment.specs.Check.{segmentCrcOk, libraryRefusal, checkedLibrary}
 use Rattle.quantized_cache.specs.Size.{sizingOf, sizeOf}
 use Rattle.quantized_cache.specs.Open.{cachedAt, stateOf, opened}
-use Rattle.quantized_cache.specs.declared.State.{State as CacheState}
-use Rattle.rows.specs.Rows.{rowOf}
+use Rattle.quantized_cache.specs.declared.CacheState.{CacheState}
+use Rattle.encoded_rows.specs.Rows.{rowOf}
 use Rattle.prepare.specs.Prepare.{prepareRefusal}
-use Rattle.resident.specs.Build.{roomNumber, buildRefusal, codesAfter, scalesAfter, normsAfter, residentAt}
-use Rattle.resident.specs.declared.State.{State as ResidentState}
+use Rattle.resident.specs.Build.{residentRoomNumber, buildRefusal, codesAfter, scalesAfter, normsAfter, residentAt}
+use Rattle.resident.specs.declared.ResidentState.{ResidentState}
 use Rattle.theorems.specs.Words.{Bytes, Accepted, LeftByPreparing, Opens, LeftByBuilding}
 
 -- manifest and segments that pass every test of the library check, by document 01's table, with this expected CRC-32 and length of the scratch
@@ -99,7 +99,7 @@ pub record Library : Type 0 where
       → prepareRefusal m (a .expected) scratch s platform root o lent ≡ refusedOr (sizingOf m platform root o) (cond (leb (sizeOf m platform root) lent) none (refused 11 0))
   -- "Resident building: 8, 11, 5": likewise by 8, or by 11 for a short slice, at 0
   pub accepted-built : (m s : List ℕ) (a : Accepted m s) (scratch : ℕ) → rowsOf m ≤ scratch → (codes scales norms : ℕ)
-      → buildRefusal m (a .expected) scratch s codes scales norms ≡ refused (roomNumber (rowsOf m) (dimensionsOf m) codes scales norms) 0
+      → buildRefusal m (a .expected) scratch s codes scales norms ≡ refused (residentRoomNumber (rowsOf m) (dimensionsOf m) codes scales norms) 0
   -- and never, whatever CRC-32 is expected and whatever is lent, by 5
   pub never-5-prepared : (m s : List ℕ) → Accepted m s → (expected scratch : ℕ) (platform root : List ℕ) (o : Options) (lent : ℕ)
       → prepareRefusal m expected scratch s platform root o lent .number ≡ 5 → ⊥

@@ -9,20 +9,20 @@ use lib.IntN.{ℤ}
 use lib.ListN.{length, getD, take}
 use lib.Ieee.{Float, binary64, toBits}
 use Rattle.float.specs.Order.{totalBelow}
-use Rattle.float.specs.Values.{zero}
+use Rattle.float.specs.Values.{plusZero}
 use Rattle.rank.specs.Sort.{_∈_, Distinct, Ascending}
 use Rattle.config.specs.Vector.{validVector}
 use Rattle.config.specs.declared.Refusal.{Refusal}
 use Rattle.quantization.specs.Encoder.{baseLevels, midpoints}
 use Rattle.format.specs.Fields.{dimensionsOf, rowsOf, metricAt}
-use Rattle.geometry.specs.declared.Options.{Options}
+use Rattle.cache_format.specs.declared.Options.{Options}
 use Rattle.segment.specs.Check.{libraryRefusal}
 use Rattle.quantized_cache.specs.Size.{sizeOf}
 use Rattle.quantized_cache.specs.Open.{opened}
-use Rattle.quantized_cache.specs.declared.State.{State as CacheState}
+use Rattle.quantized_cache.specs.declared.CacheState.{CacheState}
 use Rattle.prepare.specs.Prepare.{prepareRefusal, cacheAfter}
 use Rattle.resident.specs.Build.{buildRefusal, builtBy, codesAfter, scalesAfter, normsAfter}
-use Rattle.resident.specs.declared.State.{State as ResidentState}
+use Rattle.resident.specs.declared.ResidentState.{ResidentState}
 use Rattle.search_spec.specs.Lent.{Call, Singles, handed}
 use Rattle.search_spec.specs.Lists.{byOriginal, eligibleRows}
 use Rattle.search_spec.specs.Outcome.{Outcome}
@@ -72,7 +72,7 @@ pub record Alike (o p : Outcome) : Type 0 where
   pub agreement : o .agreement ≡ p .agreement
   pub ids : o .answers .ids ≡ p .answers .ids
   pub distances : length (o .answers .distances) ≡ length (p .answers .distances)
-  pub bits : (i : ℕ) → SameBits (getD (o .answers .distances) i zero) (getD (p .answers .distances) i zero)
+  pub bits : (i : ℕ) → SameBits (getD (o .answers .distances) i plusZero) (getD (p .answers .distances) i plusZero)
   pub rows : o .answers .rows ≡ p .answers .rows
   pub starts : o .answers .starts ≡ p .answers .starts
   pub lengths : o .answers .lengths ≡ p .answers .lengths

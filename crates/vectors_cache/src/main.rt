@@ -3,9 +3,9 @@
 // numbers are and what is printed of each case.
 ghost use Prim.Native.Nat.{_*_, _≤_};
 ghost use lib.ListN.{length};
+use cache_format::Options;
 use config::Refusal;
 use format::Head;
-use geometry::Options;
 use prepare::Prepared;
 use resident::Built;
 

@@ -3,8 +3,8 @@
 ghost use mathlib.Core.Path.{_≡_};
 ghost use Prim.Native.Nat.{_+_, _*_, _≤_};
 ghost use lib.ListN.{length};
+use cache_format::Options;
 use config::Refusal;
-use geometry::Options;
 use search_spec::Agreed;
 use search_spec::Report;
 use search_spec::Searched;
@@ -169,7 +169,8 @@ fn print_first(
     starts: &[u64],
     lengths: &[u32],
 )
-    requires { ⌜ (n ≤ length (now ids)) × (n ≤ length (now distances)) × (n ≤ length (now rows)) × (n ≤ length (now starts)) × (n ≤ length (now lengths)) ⌝ }
+    requires { ⌜ (n ≤ length (now ids)) × (n ≤ length (now distances)) × (n ≤ length (now rows)) × (n ≤ length (now starts))
+        × (n ≤ length (now lengths)) ⌝ }
 {
     let mut i = 0;
     while i < n {
@@ -199,7 +200,8 @@ fn put_places(
     starts: &[u64],
     lengths: &[u32],
 )
-    requires { ⌜ (36 * n ≤ length (now out)) × (n ≤ length (now ids)) × (n ≤ length (now distances)) × (n ≤ length (now rows)) × (n ≤ length (now starts)) × (n ≤ length (now lengths)) ⌝ }
+    requires { ⌜ (36 * n ≤ length (now out)) × (n ≤ length (now ids)) × (n ≤ length (now distances)) × (n ≤ length (now rows))
+        × (n ≤ length (now starts)) × (n ≤ length (now lengths)) ⌝ }
 {
     let mut i = 0;
     while i < n {
@@ -225,7 +227,8 @@ fn print_sum(
     starts: &[u64],
     lengths: &[u32],
 )
-    requires { ⌜ (n ≤ 512) × (n ≤ length (now ids)) × (n ≤ length (now distances)) × (n ≤ length (now rows)) × (n ≤ length (now starts)) × (n ≤ length (now lengths)) ⌝ }
+    requires { ⌜ (n ≤ 512) × (n ≤ length (now ids)) × (n ≤ length (now distances)) × (n ≤ length (now rows)) × (n ≤ length (now starts))
+        × (n ≤ length (now lengths)) ⌝ }
 {
     let mut out = [0u8; 18432];
     put_places(&mut out, n, ids, distances, rows, starts, lengths);
@@ -339,17 +342,17 @@ fn other_than(x: usize, other: usize) -> usize {
 }
 
 // The state as returned, or with other lengths in it.
-fn cached_state(c: Call, state: quantized_cache::State) -> quantized_cache::State {
+fn cached_state(c: Call, state: quantized_cache::CacheState) -> quantized_cache::CacheState {
     let h = state.head;
-    quantized_cache::State {
+    quantized_cache::CacheState {
         head: h,
         cache: other_than(state.cache, c.other_cache),
     }
 }
 
-fn resident_state(c: Call, state: resident::State) -> resident::State {
+fn resident_state(c: Call, state: resident::ResidentState) -> resident::ResidentState {
     let h = state.head;
-    resident::State {
+    resident::ResidentState {
         head: h,
         codes: other_than(state.codes, c.other_codes),
         scales: other_than(state.scales, c.other_scales),
@@ -440,7 +443,7 @@ fn print_arrays(
 
 fn search_cached(
     c: Call,
-    returned: quantized_cache::State,
+    returned: quantized_cache::CacheState,
     manifest: &[u8],
     segments: &[u8],
     cache: &[u8],
@@ -497,7 +500,7 @@ fn search_cached(
 
 fn search_cached_ids(
     c: Call,
-    returned: quantized_cache::State,
+    returned: quantized_cache::CacheState,
     manifest: &[u8],
     segments: &[u8],
     cache: &[u8],
@@ -558,7 +561,7 @@ fn search_cached_ids(
 
 fn search_resident(
     c: Call,
-    returned: resident::State,
+    returned: resident::ResidentState,
     manifest: &[u8],
     segments: &[u8],
     codes: &[i8],
@@ -619,7 +622,7 @@ fn search_resident(
 
 fn search_resident_ids(
     c: Call,
-    returned: resident::State,
+    returned: resident::ResidentState,
     manifest: &[u8],
     segments: &[u8],
     codes: &[i8],
@@ -684,7 +687,7 @@ fn search_resident_ids(
 
 fn agree_cached(
     c: Call,
-    returned: quantized_cache::State,
+    returned: quantized_cache::CacheState,
     manifest: &[u8],
     segments: &[u8],
     cache: &[u8],
@@ -740,7 +743,7 @@ fn agree_cached(
 
 fn agree_cached_ids(
     c: Call,
-    returned: quantized_cache::State,
+    returned: quantized_cache::CacheState,
     manifest: &[u8],
     segments: &[u8],
     cache: &[u8],
@@ -800,7 +803,7 @@ fn agree_cached_ids(
 
 fn agree_resident(
     c: Call,
-    returned: resident::State,
+    returned: resident::ResidentState,
     manifest: &[u8],
     segments: &[u8],
     codes: &[i8],
@@ -860,7 +863,7 @@ fn agree_resident(
 
 fn agree_resident_ids(
     c: Call,
-    returned: resident::State,
+    returned: resident::ResidentState,
     manifest: &[u8],
     segments: &[u8],
     codes: &[i8],
@@ -925,8 +928,8 @@ fn agree_resident_ids(
 // The kinds: 1 with ids, 2 over resident rows, 4 an agreement count.
 fn run(
     head: &[u8; 112],
-    opened: quantized_cache::State,
-    built: resident::State,
+    opened: quantized_cache::CacheState,
+    built: resident::ResidentState,
     manifest: &[u8],
     segments: &[u8],
     cache: &[u8],
@@ -1017,8 +1020,8 @@ fn read(s: &mut [u8], n: usize)
 
 fn with_ids(
     head: &[u8; 112],
-    opened: quantized_cache::State,
-    built: resident::State,
+    opened: quantized_cache::CacheState,
+    built: resident::ResidentState,
     manifest: &[u8],
     segments: &[u8],
     cache: &[u8],
@@ -1051,8 +1054,8 @@ fn with_ids(
 // So many ids that they are not read; their array is lent whole, so that no proof counts its elements.
 fn from_many(
     head: &[u8; 112],
-    opened: quantized_cache::State,
-    built: resident::State,
+    opened: quantized_cache::CacheState,
+    built: resident::ResidentState,
     manifest: &[u8],
     segments: &[u8],
     cache: &[u8],
@@ -1080,8 +1083,8 @@ fn from_many(
 
 fn in_many(
     head: &[u8; 112],
-    opened: quantized_cache::State,
-    built: resident::State,
+    opened: quantized_cache::CacheState,
+    built: resident::ResidentState,
     manifest: &[u8],
     segments: &[u8],
     cache: &[u8],
@@ -1108,8 +1111,8 @@ fn in_many(
 
 fn with_many(
     head: &[u8; 112],
-    opened: quantized_cache::State,
-    built: resident::State,
+    opened: quantized_cache::CacheState,
+    built: resident::ResidentState,
     manifest: &[u8],
     segments: &[u8],
     cache: &[u8],
@@ -1136,8 +1139,8 @@ fn with_many(
 
 fn with_either(
     head: &[u8; 112],
-    opened: quantized_cache::State,
-    built: resident::State,
+    opened: quantized_cache::CacheState,
+    built: resident::ResidentState,
     manifest: &[u8],
     segments: &[u8],
     cache: &[u8],
@@ -1177,8 +1180,8 @@ fn with_either(
 
 fn with_query(
     head: &[u8; 112],
-    opened: quantized_cache::State,
-    built: resident::State,
+    opened: quantized_cache::CacheState,
+    built: resident::ResidentState,
     manifest: &[u8],
     segments: &[u8],
     cache: &[u8],
@@ -1209,8 +1212,8 @@ fn with_query(
 // So much of each as the command says.
 fn with_lent(
     head: &[u8; 112],
-    opened: quantized_cache::State,
-    built: resident::State,
+    opened: quantized_cache::CacheState,
+    built: resident::ResidentState,
     manifest: &[u8],
     segments: &[u8],
     cache: &[u8],
@@ -1311,8 +1314,8 @@ fn change(
 
 // Reads and runs a command; whether there was one.
 fn command(
-    opened: quantized_cache::State,
-    built: resident::State,
+    opened: quantized_cache::CacheState,
+    built: resident::ResidentState,
     manifest: &mut [u8; 32768],
     segments: &mut [u8; 49152],
     cache: &mut [u8; 32768],
@@ -1348,8 +1351,8 @@ fn command(
 }
 
 fn commands(
-    opened: quantized_cache::State,
-    built: resident::State,
+    opened: quantized_cache::CacheState,
+    built: resident::ResidentState,
     manifest: &mut [u8; 32768],
     segments: &mut [u8; 49152],
     cache: &mut [u8; 32768],
@@ -1401,7 +1404,7 @@ fn open_cache(
     cache: &[u8],
     platform: &[u8],
     root: &[u8],
-) -> quantized_cache::State {
+) -> quantized_cache::CacheState {
     let mut scratch = [0u64; 512];
     let r = quantized_cache::open(
         manifest,
@@ -1423,7 +1426,7 @@ fn build_rows(
     codes: &mut [i8],
     scales: &mut [f64],
     norms: &mut [i64],
-) -> resident::State {
+) -> resident::ResidentState {
     let mut scratch = [0u64; 512];
     let r = resident::build(
         manifest,
@@ -1446,7 +1449,7 @@ fn build_part(
     codes: &mut [i8],
     scales: &mut [f64],
     norms: &mut [i64],
-) -> resident::State {
+) -> resident::ResidentState {
     let c = library_field(head, 24, codes.len());
     let s = library_field(head, 28, scales.len());
     let n = library_field(head, 32, norms.len());
@@ -1466,7 +1469,7 @@ fn open_library(
     manifest: &[u8],
     segments: &[u8],
     cache: &[u8],
-) -> quantized_cache::State {
+) -> quantized_cache::CacheState {
     let mut platform = [0u8; 64];
     let mut root = [0u8; 256];
     let a = library_field(head, 0, manifest.len());
@@ -1493,7 +1496,7 @@ fn build_library(
     codes: &mut [i8],
     scales: &mut [f64],
     norms: &mut [i64],
-) -> resident::State {
+) -> resident::ResidentState {
     let a = library_field(head, 0, manifest.len());
     let b = library_field(head, 4, segments.len());
     let state = build_part(head, &manifest[..a], &segments[..b], codes, scales, norms);

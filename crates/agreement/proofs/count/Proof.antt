@@ -5,7 +5,7 @@ use native.Mathlib.Omega.{arith}
 use Prim.Native.Nat.{_-_, _≤_}
 use Rattle.search_spec.specs.Lent.{given, everyone}
 use Rattle.search_spec.specs.Lists.{isEligible}
-use Rattle.eligible.specs.Walk.{Walked}
+use Rattle.eligible.specs.Walk.{CursorAt}
 use Rattle.eligible.proofs.Walk.{begun}
 use Rattle.agreement.proofs.Counting.{Counting, counting-start, both-long, counting-skip, counting-turn, counting-stop, counting-end}
 use Rattle.agreement.proofs.count.Statement.{statement}
@@ -13,7 +13,7 @@ use Rattle.agreement.proofs.count.Tie as tie
 
 abbrev Inv-loop : tie.InvT-loop
 Inv-loop m layout metric starts s q q-inverse all sorted ks rs n₀ row₀ cursor₀ n row cursor =
-    (row ≤ layout .rows) × Walked m sorted cursor row × Counting m s q (isEligible (given all sorted) everyone m) rs row n
+    (row ≤ layout .rows) × CursorAt m sorted cursor row × Counting m s q (isEligible (given all sorted) everyone m) rs row n
 
 abbrev μ-loop : tie.MeasureT-loop
 μ-loop m layout metric starts s q q-inverse all sorted ks rs n₀ row₀ cursor₀ n row cursor = layout .rows - row

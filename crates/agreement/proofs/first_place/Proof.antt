@@ -3,13 +3,13 @@ use mathlib.Core.Path.{refl, sym, _∙_}
 use borrow.Author.Needs.{needs}
 use native.Mathlib.Omega.{arith}
 use Prim.Native.Nat.{_-_}
-use Rattle.agreement.specs.Count.{notAfter}
+use Rattle.agreement.specs.Count.{keyNotAfter}
 use Rattle.agreement.proofs.Places.{Between, first-none, first-all, between, lowered, raised, found}
 use Rattle.agreement.proofs.first_place.Statement.{statement}
 use Rattle.agreement.proofs.first_place.Tie as tie
 
 abbrev Inv-loop : tie.InvT-loop
-Inv-loop ks rs n key row low₀ high₀ low high = Between (notAfter ks rs key row) n low high
+Inv-loop ks rs n key row low₀ high₀ low high = Between (keyNotAfter ks rs key row) n low high
 
 abbrev μ-loop : tie.MeasureT-loop
 μ-loop ks rs n key row low₀ high₀ low high = high - low

@@ -14,7 +14,7 @@ use Rattle.format.specs.Fields.{rowsOf}
 use Rattle.format.proofs.Same.{same-parts}
 use Rattle.entries.specs.Plan.{badEntry, rowsOk}
 use Rattle.entries.proofs.Entries.{rows-by}
-use Rattle.eligible.specs.Walk.{ordered}
+use Rattle.eligible.specs.Walk.{sortedIds}
 use Rattle.eligible.proofs.Walk.{front, ordered-same, ordered-rows, ordered-rises}
 use Rattle.search_spec.specs.Lent.{Rows, Call, given, handed, everyone, answersOf, workOf, callOf}
 use Rattle.search_spec.specs.Tests.{roomOf}
@@ -62,7 +62,7 @@ sorted-long c = let e = c .select .ensures .0 in let h = ids-fit (start c) in le
 sorted-cut : (c : tie.After-select) → c .select .result ≡ length (take (c .select .result) (c .select .last .1 .1 .0))
 sorted-cut c = sym (length-take-le (c .select .result) (c .select .last .1 .1 .0) (sorted-long c))
 
-sorted-is : (c : tie.After-select) → take (c .select .result) (c .select .last .1 .1 .0) ≡ ordered (call (start c) .wanted)
+sorted-is : (c : tie.After-select) → take (c .select .result) (c .select .last .1 .1 .0) ≡ sortedIds (call (start c) .wanted)
 sorted-is c = let w = call (start c) .wanted in ap (λ n. take n (c .select .last .1 .1 .0)) (c .select .ensures .0) ∙ ap (take (handed w)) (c .select .ensures .1) ∙ front w _
 
 sorted-rises : (c : tie.After-select) → Ascending leb (take (c .select .result) (c .select .last .1 .1 .0))

@@ -5,7 +5,7 @@ use borrow.Author.Tests.{eq-eqb, ne-eqb}
 use lib.ListN.{length, getD}
 use lib.Ieee.{nan, ofBits, div, neg, eq}
 use lib.Ieee.Scale.{finite}
-use Rattle.float.specs.Values.{zero as nought}
+use Rattle.float.specs.Values.{plusZero}
 use Rattle.config.specs.Vector.{validVector}
 use Rattle.config.proofs.Vectors.{between, Sofar, sofar-start, sofar-turn, sofar-done}
 use Rattle.config.proofs.validate_vector.Statement.{statement}
@@ -13,7 +13,7 @@ use Rattle.config.proofs.validate_vector.Tie as tie
 
 abbrev Inv-loop : tie.InvT-loop
 Inv-loop metric dimensions vector top low finite₀ zero₀ i₀ fine none i =
-    (i ≤ length vector) × Sofar finite vector i fine × Sofar (λ x. eq x nought) vector i none
+    (i ≤ length vector) × Sofar finite vector i fine × Sofar (λ x. eq x plusZero) vector i none
 
 abbrev μ-loop : tie.MeasureT-loop
 μ-loop metric dimensions vector top low finite₀ zero₀ i₀ fine none i = length vector - i

@@ -6,7 +6,7 @@ use Rattle.rank.specs.Rows.{passing}
 use Rattle.format.specs.Fields.{rowsOf}
 use Rattle.search_spec.specs.Lent.{only, everyone}
 use Rattle.search_spec.specs.Lists.{isEligible, eligible}
-use Rattle.eligible.specs.Walk.{Walked}
+use Rattle.eligible.specs.Walk.{CursorAt}
 use Rattle.eligible.proofs.Walk.{begun, count-none, count-next, count-low, all-eligible}
 use native.Mathlib.Omega.{arith}
 use Rattle.eligible.proofs.count.Statement.{statement}
@@ -14,7 +14,7 @@ use Rattle.eligible.proofs.count.Tie as tie
 
 abbrev Inv-loop : tie.InvT-loop
 Inv-loop m layout all sorted row₀ cursor₀ total₀ row cursor total =
-    (row ≤ layout .rows) × Walked m sorted cursor row × (total ≡ length (passing (isEligible (only sorted) everyone m) row))
+    (row ≤ layout .rows) × CursorAt m sorted cursor row × (total ≡ length (passing (isEligible (only sorted) everyone m) row))
 
 abbrev μ-loop : tie.MeasureT-loop
 μ-loop m layout all sorted row₀ cursor₀ total₀ row cursor total = layout .rows - row

@@ -1,11 +1,11 @@
 use borrow.Author.Needs.{needs}
 use mathlib.Core.Path.{ap}
-use Rattle.resident.specs.Build.{answered}
+use Rattle.resident.specs.Build.{residentAnswer}
 use Rattle.exports.proofs.pv_build.Statement.{statement}
 use Rattle.exports.proofs.pv_build.Tie as tie
 
 returns : tie.Need-returns
-unfolding answered
+unfolding residentAnswer
 returns c =
     let e = c .before .before .before .before .before .before .before .build .ensures in
     let f = e .0 in

@@ -1,18 +1,18 @@
 use borrow.Author.Needs.{needs}
 use mathlib.Core.Path.{sym, _∙_}
 use borrow.Author.Tests.{eq-eqb, ne-eqb}
-use Rattle.resident.specs.Build.{answered}
+use Rattle.resident.specs.Build.{residentAnswer}
 use Rattle.exports.proofs.resident_state.Statement.{statement}
 use Rattle.exports.proofs.resident_state.Tie as tie
 
 returns : tie.Need-returns
-unfolding answered
+unfolding residentAnswer
 returns c =
     let h = c .before .before .head-number in
     rw (← (h .ensures), eq-eqb (h .result) 0 (c .before .if1 .taken), c .read-head .ensures)
 
 returns-2 : tie.Need-returns-2
-unfolding answered
+unfolding residentAnswer
 returns-2 c =
     let h = c .before .before .head-number in
     rw (← (h .ensures), ne-eqb (h .result) 0 (c .before .if1 .left), c .zero-head .ensures)

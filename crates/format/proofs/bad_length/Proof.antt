@@ -4,14 +4,14 @@ use mathlib.Core.List.{List}
 use Prim.Native.Nat.{ℕ, _-_, _≤_}
 use borrow.Author.Tests.{not-true, not-false}
 use Rattle.config.specs.Limits.{maxSegmentBytes}
-use Rattle.format.specs.Order.{within}
+use Rattle.utf8.specs.Grammar.{span}
 use Rattle.format.specs.Fields.{segmentsOf, lengthOf}
 use Rattle.format.proofs.First.{Reached, reached-start, reached-turn, reached-stop, reached-end}
 use Rattle.format.proofs.bad_length.Statement.{statement}
 use Rattle.format.proofs.bad_length.Tie as tie
 
 abbrev held : List ℕ → ℕ → Bool
-held m n = within 4 maxSegmentBytes (lengthOf m n)
+held m n = span 4 maxSegmentBytes (lengthOf m n)
 
 abbrev Inv-loop : tie.InvT-loop
 Inv-loop m layout n₀ n = (n ≤ layout .segments) × Reached (held m) (segmentsOf m) n
@@ -20,6 +20,7 @@ abbrev μ-loop : tie.MeasureT-loop
 μ-loop m layout n₀ n = layout .segments - n
 
 pub bad-length-spec : {M : Type 1} → statement M
+unfolding span
 bad-length-spec =
     tie.close
     (tie.spec

@@ -7,7 +7,7 @@ use Rattle.format.proofs.kind_holds.Tie as tie
 
 returns : tie.Need-returns
 unfolding kindOk metricByte modelLength
-returns c = rw (metric-bytes, c .within .ensures, c .before .count-at .ensures .0)
+returns c = rw (metric-bytes, c .span .ensures, c .before .count-at .ensures .0)
 
 pub kind-holds-spec : {M : Type 1} → statement M
 kind-holds-spec = tie.close (tie.spec

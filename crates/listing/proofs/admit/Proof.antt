@@ -3,11 +3,11 @@ use Prim.Native.Nat.{ℕ}
 use borrow.Author.Needs.{needs}
 use denote.Ref.{now}
 use Rattle.config.specs.declared.Refusal.{Refusal}
-use Rattle.geometry.specs.declared.Options.{Options}
+use Rattle.cache_format.specs.declared.Options.{Options}
 use Rattle.manifest.specs.Check.{checked}
 use Rattle.manifest.specs.declared.Checked.{Checked}
 use Rattle.segment.specs.Check.{checkedLibrary}
-use Rattle.quantized_cache.specs.Open.{zeroState, opened}
+use Rattle.quantized_cache.specs.Open.{zeroCacheState, opened}
 use Rattle.quantized_cache.specs.declared.Opened.{Opened}
 use Rattle.listing_text.specs.Listing.{mostPlaces}
 use Rattle.listing.proofs.Admits.{refused-first, refused-second, opened-last}
@@ -29,7 +29,7 @@ returns c =
     let a = c .before .before .before .before .before .before .before .before .before .before .before .before .before .before .args in
     let d = c .before .before .before .before .before .before .before .before .own-crc in
     let e = ap (λ (x : Checked). x .refusal) (one (c .before .before .before .before .before)) in
-    c .refused .ensures ∙ ap (λ (r : Refusal). let o : Opened = record { refusal = r; state = zeroState } in o) e
+    c .refused .ensures ∙ ap (λ (r : Refusal). let o : Opened = record { refusal = r; state = zeroCacheState } in o) e
     ∙ refused-first (now (a .manifest)) (now (a .segments)) (now (a .cache)) (now (a .platform)) (now (a .root)) (d .result) (d .ensures) (rw e at (c .before .if1 .taken))
 
 returns-2 : tie.Need-returns-2
@@ -38,7 +38,7 @@ returns-2 c =
     let d = c .before .before .before .before .before .before .before .before .before .before .before .before .before .before .own-crc in
     let e = ap (λ (x : Checked). x .refusal) (one (c .before .before .before .before .before .before .before .before .before .before .before)) in
     let f = ap (λ (x : Checked). x .refusal) (two (c .before .before .before .before .before)) in
-    c .refused2 .ensures ∙ ap (λ (r : Refusal). let o : Opened = record { refusal = r; state = zeroState } in o) f
+    c .refused2 .ensures ∙ ap (λ (r : Refusal). let o : Opened = record { refusal = r; state = zeroCacheState } in o) f
     ∙ refused-second (now (a .manifest)) (now (a .segments)) (now (a .cache)) (now (a .platform)) (now (a .root)) (d .result) (d .ensures)
     (rw e at (c .before .before .before .before .before .before .before .if1 .left)) (λ z. c .before .if2 .taken (ap (λ (r : Refusal). r .number) f ∙ z))
 

@@ -8,7 +8,7 @@ use denote.Ref.{now}
 use Rattle.text.proofs.Puts.{put-same}
 use Rattle.listing_text.specs.Listing.{refusalText}
 use Rattle.listing_input.specs.Files.{Files, filesOf}
-use Rattle.listing_input.specs.Parts.{platformOf, rootOf}
+use Rattle.listing_input.specs.Parts.{platformOf, rootPart}
 use Rattle.listing_input.specs.declared.There.{There}
 use Rattle.quantized_cache.specs.declared.Opened.{Opened}
 use Rattle.search_spec.specs.Kept.{cached}
@@ -22,7 +22,7 @@ abbrev files : tie.Start → There → Files
 files c there = let a = c .args in filesOf there (now (a .manifest)) (now (a .segments)) (now (a .cache)) (now (a .query)) (now (a .call)) (now (a .place))
 
 admits : (c : tie.After-admit) (there : There) → c .admit .result ≡ admission (files (c .before .before .before .before .before .before .before .before .before .before .before) there)
-unfolding admission platformOf rootOf
+unfolding admission platformOf rootPart
 admits c there =
     let place = now (c .before .before .before .before .before .before .before .before .before .before .before .args .place) in
     let n = c .before .before .before .newline-at .result + 1 in

@@ -1,10 +1,10 @@
 use borrow.Author.Needs.{needs}
-use Rattle.listing_input.specs.Files.{some, badInput}
+use Rattle.listing_input.specs.Files.{some, isBadInput}
 use Rattle.listing_input.proofs.bad_input.Statement.{statement}
 use Rattle.listing_input.proofs.bad_input.Tie as tie
 
 returns : tie.Need-returns
-unfolding some badInput
+unfolding some isBadInput
 returns c manifest segments cache = rw (c .newline-at .ensures)
 
 pub bad-input-spec : {M : Type 1} → statement M

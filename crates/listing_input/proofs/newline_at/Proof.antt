@@ -5,12 +5,12 @@ use borrow.Author.Tests.{ne-eqb}
 use lib.Dec.{eqb}
 use lib.ListN.{length, getD}
 use Rattle.format.proofs.First.{Reached, reached-start, reached-turn, reached-stop, reached-end}
-use Rattle.listing_input.specs.Parts.{newline, newlineAt}
+use Rattle.listing_input.specs.Parts.{newlineByte, newlineAt}
 use Rattle.listing_input.proofs.newline_at.Statement.{statement}
 use Rattle.listing_input.proofs.newline_at.Tie as tie
 
 abbrev Inv-loop : tie.InvT-loop
-Inv-loop place i₀ i = (i ≤ length place) × Reached (λ j. not (eqb (getD place j 0) newline)) (length place) i
+Inv-loop place i₀ i = (i ≤ length place) × Reached (λ j. not (eqb (getD place j 0) newlineByte)) (length place) i
 
 abbrev μ-loop : tie.MeasureT-loop
 μ-loop place i₀ i = length place - i

@@ -7,7 +7,7 @@ use Prim.Native.Nat.{ℕ, _-_, _≤_, _<_}
 use lib.ListN.{length}
 use borrow.Author.Tests.{eq-eqb, ne-eqb, not-true, not-false}
 use Rattle.format.specs.Fields.{segmentsOf, lengthOf}
-use Rattle.format.specs.Layout.{Placed}
+use Rattle.format.specs.Layout.{LaidOut}
 use Rattle.format.specs.declared.Layout.{Layout}
 use Rattle.format.proofs.First.{Reached, reached-start, reached-turn, reached-stop, reached-end}
 use Rattle.manifest.specs.Tiling.{covers, inSegment, tiled}
@@ -49,7 +49,7 @@ said : (c : tie.After-covers Inv-loop μ-loop)
 said c =
     c .covers .ensures ∙ rw (c .before .before .segment-length .ensures, part (c .before .before .before) .rows)
 
-within : {m : List ℕ} {l : Layout} {n : ℕ} → Placed m l → n < l .segments → n < segmentsOf m
+within : {m : List ℕ} {l : Layout} {n : ℕ} → LaidOut m l → n < l .segments → n < segmentsOf m
 within p h = rw (p .segments) at h
 
 returns : tie.Need-returns Inv-loop μ-loop

@@ -6,7 +6,7 @@ use Rattle.config.specs.declared.Refusal.{Refusal}
 use Rattle.format.proofs.Heads.{bounds}
 use Rattle.quantized_cache.specs.Size.{sizeOf, sizingOf}
 use Rattle.quantized_cache.proofs.Sizes.{sizing-in}
-use Rattle.prepare.specs.Prepare.{lateRefusal, cacheAfter, preparedBy}
+use Rattle.prepare.specs.Prepare.{storeRefusal, cacheAfter, preparedBy}
 use Rattle.prepare.specs.declared.Prepared.{Prepared}
 use Rattle.prepare.proofs.Stored.{refused-sizing, sized, refused-answer, refused-cache}
 use Rattle.prepare.proofs.prepare_accepted.Statement.{statement}
@@ -51,7 +51,7 @@ returns-2 c =
     let d = b .args .cache .now in
     let f = c .before .before .before .fill .ensures in
     let z = c .before .before .before .before .before .size-of .ensures in
-    let e = f .0 ∙ ap (λ k. lateRefusal m s k (length d)) z ∙ sym (sized m s p q (b .args .options) (length d) (number (c .before .before .before .before .before .before))) in
+    let e = f .0 ∙ ap (λ k. storeRefusal m s k (length d)) z ∙ sym (sized m s p q (b .args .options) (length d) (number (c .before .before .before .before .before .before))) in
     let r = c .answer2 .ensures ∙ ap (λ k. preparedBy m k (c .before .before .before .fill .result)) z ∙ ap (preparedBy m (sizeOf m p q)) e in
     (r, rw (ap (λ (x : Prepared). x .refusal) r) (f .1 ∙ ap (λ (r : Refusal). cacheAfter m s p q r d) e))
 

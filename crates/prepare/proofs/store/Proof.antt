@@ -11,7 +11,7 @@ places : (c : tie.After-identity-length)
     → let b = c .before .before .before .before .before .before in Stores (b .args .m .now) (b .args .s .now) (b .args .platform .now) (b .args .root .now) (16 + c .identity-length .result) (b .args .size) (length (b .args .cache .now))
 places c =
     let b = c .before .before .before .before .before .before in
-    stores (b .args .m .now) (b .args .s .now) (b .args .platform .now) (b .args .root .now) (16 + c .identity-length .result) (b .args .size) (length (b .args .cache .now)) (ap (λ n. 16 + n) (c .identity-length .ensures)) (b .pre .3) (b .pre .4 .long) (b .pre .5)
+    stores (b .args .m .now) (b .args .s .now) (b .args .platform .now) (b .args .root .now) (16 + c .identity-length .result) (b .args .size) (length (b .args .cache .now)) (ap (λ n. 16 + n) (c .identity-length .ensures)) (b .pre .4) (b .pre .5 .long) (b .pre .6)
 
 returns : tie.Need-returns
 returns c =
@@ -26,19 +26,19 @@ pub store-spec : {M : Type 1} → statement M
 store-spec =
     tie.close
     (tie.spec
-    (λ c κs. let l = c .before .before .before .before .before .pre .4 in (l .platform-short, l .root-short, l .long, l .short))
-    (λ c. let l = c .before .before .before .before .before .before .pre .4 in let e = c .identity-length .ensures in omega (arith, e, l .platform-short, l .root-short, l .short))
+    (λ c κs. let l = c .before .before .before .before .before .pre .5 in (l .platform-short, l .root-short, l .long, l .short))
+    (λ c. let l = c .before .before .before .before .before .before .pre .5 in let e = c .identity-length .ensures in omega (arith, e, l .platform-short, l .root-short, l .short))
     (λ c κs. let b = c .before .before .before .before .before .before .before in
-    let l = b .pre .4 in
-    record { platform-short = l .platform-short; root-short = l .root-short; long = l .long; short = l .short; fits = omega (arith, l .fits, b .pre .5) })
+    let l = b .pre .5 in
+    record { platform-short = l .platform-short; root-short = l .root-short; long = l .long; short = l .short; fits = omega (arith, l .fits, b .pre .6) })
     (λ c κs. let b = c .before .before .before .before .before .before .before .before .before .before .before in
     let p = places (c .before .before .before .before .before) in
     let k = c .before .before .before .put-head .kept .0 in
-    (b .pre .0, b .pre .1, b .pre .2, omega (arith, k, p .rows-fit, p .fits)))
+    (b .pre .0, b .pre .1, b .pre .2, b .pre .3, omega (arith, k, p .rows-fit, p .fits)))
     (λ c. let p = places (c .before .before .before .before .before .before .before .before .before) in omega (arith, p .long))
     (λ c κs. let p = places (c .before .before .before .before .before .before .before .before .before) in
-    let k = c .before .before .before .store-rows .kept .1 .1 .0 in
+    let k = c .before .before .before .store-rows .kept .1 .1 .1 .1 .0 in
     let j = c .before .before .before .before .before .before .before .put-head .kept .0 in
     omega (arith, k, j, p .long, p .fits))
-    (λ c. c .before .before .put-crc .kept .0 ∙ c .before .before .before .before .before .before .store-rows .kept .1 .1 .0 ∙ c .before .before .before .before .before .before .before .before .before .before .put-head .kept .0)
+    (λ c. c .before .before .put-crc .kept .0 ∙ c .before .before .before .before .before .before .store-rows .kept .1 .1 .1 .1 .0 ∙ c .before .before .before .before .before .before .before .before .before .before .put-head .kept .0)
     returns)

@@ -14,4 +14,4 @@ head-number-spec =
     let h = bounds (b .args .m .now) (b .pre .0) in
     let s = sizing-in (b .args .m .now) (b .args .platform .now) (b .args .root .now) (b .args .options) (b .pre .1) .bounds in
     record { platform-short = s .platform-short; root-short = s .root-short; long = h .long; short = h .short; fits = rw (c .size-of .ensures) (omega arith) })
-    (λ c. c .open-number .ensures ∙ rw (c .before .size-of .ensures)))
+    (λ c. c .cache-head-number .ensures ∙ rw (c .before .size-of .ensures)))

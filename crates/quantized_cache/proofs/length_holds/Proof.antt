@@ -1,7 +1,7 @@
 use borrow.Author.Needs.{needs}
 use native.Mathlib.Omega.{arith}
 use Prim.Native.Nat.{_*_, _≤_}
-use Rattle.geometry.proofs.Sizes.{rows-in}
+use Rattle.cache_format.proofs.Sizes.{rows-in}
 use Rattle.quantized_cache.specs.Open.{cacheLengthOk}
 use Rattle.quantized_cache.proofs.length_holds.Statement.{statement}
 use Rattle.quantized_cache.proofs.length_holds.Tie as tie

@@ -1,7 +1,7 @@
 use borrow.Author.Needs.{needs}
 use native.Mathlib.Omega.{arith}
 use Prim.Native.Nat.{_+_, _*_, _≤_}
-use Rattle.geometry.proofs.Sizes.{rows-in}
+use Rattle.cache_format.proofs.Sizes.{rows-in}
 use Rattle.quantized_cache.proofs.Opens.{first-start}
 use Rattle.quantized_cache.proofs.rows_at.Statement.{statement}
 use Rattle.quantized_cache.proofs.rows_at.Tie as tie

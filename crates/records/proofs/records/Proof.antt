@@ -51,7 +51,7 @@ use denote.Triple.Table.{entered, cited}
 use denote.Triple.Walked.{says, Stays, stay-dropped, stay-slice, walkOf, AllGo, goes-dropped, goes-slice, Walks, ends-at, walked, walk-meets}
 use denote.Triple.Clauses.{ensured, lasts}
 use denote.Exit.{yes}
-use Rattle.records.specs.Records.{recordAt, planOf}
+use Rattle.records.specs.Records.{placeRecord, planOf}
 use Rattle.records.specs.declared.Record.{Record}
 use Rattle.records.specs.declared.Plan.{Plan}
 use Rattle.records.proofs.Lists.{upto, upto-none, upto-length, upto-next, counts, ends}
@@ -162,7 +162,7 @@ module _ {M : Type 1} (𝓤 : URA M) (H : Heap 𝓤) (A : Atoms 𝓤) (W : Given
   to-record-at i = (((κ₀, (κ₁, (κ₂, tt))), (q₀, (q₁, (q₂, tt))), tt, at-args i, (val ids ∷ [], (val ds ∷ [], (val rs ∷ [], (vint w64 i ∷ [], tt))))), tt)
 
   abbrev there : ℕ → Record
-  there i = recordAt (ids .now) (ds .now) (rs .now) i
+  there i = placeRecord (ids .now) (ds .now) (rs .now) i
 
   -- a slice reference can be copied: what the three own is kept
   goes-record-at : (i : ℕ) → i < 2 ^ 64 → (i < length (ids .now)) × (i < length (ds .now)) × (i < length (rs .now))

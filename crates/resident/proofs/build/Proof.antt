@@ -10,7 +10,7 @@ use Rattle.format.specs.Head.{headAt}
 use Rattle.manifest.specs.Check.{manifestNumber}
 use Rattle.manifest.proofs.Passed.{Planned, accepted, cleared, left, held-rows}
 use Rattle.quantization.specs.Encoder.{baseLevels, midpoints}
-use Rattle.resident.specs.Build.{buildRefusal, answered, codesUpto, scalesUpto, normsUpto}
+use Rattle.resident.specs.Build.{buildRefusal, residentAnswer, codesUpto, scalesUpto, normsUpto}
 use Rattle.resident.specs.declared.Built.{Built}
 use Rattle.resident.proofs.Answers.{answered-refused, refused-first, refused-next}
 use Rattle.resident.proofs.build.Statement.{statement}
@@ -24,7 +24,7 @@ passed : (c : tie.Else1) → let b = c .before .before .before .before .before .
 passed c = let b = c .before .before .before .before .before .before .before .before .before in accepted (b .args .manifest .now) (b .args .expected-crc) (length (b .args .scratch .now)) (number c) .0
 
 returns : tie.Need-returns
-unfolding answered
+unfolding residentAnswer
 returns c =
     let b = c .before .before .before .before .before .before .before .before .before .before .before in
     let m = b .args .manifest .now in
@@ -39,7 +39,7 @@ returns c =
     let h : manifestNumber m x (length t) ≡ 0 → ⊥ = rw (a .0) at (c .before .before .if1 .taken) in
     let e = ap (λ i. refused i 0) (a .0) ∙ refused-first m x (length t) s k l n h in
     let o : R .number ≡ 0 → ⊥ = λ z. h (ap (λ (f : Refusal). f .number) (refused-first m x (length t) s k l n h) ∙ z) in
-    let r = c .answer .ensures ∙ ap (λ (f : Refusal). answered (c .before .zero-head .result) f k l n) e ∙ answered-refused (c .before .zero-head .result) (headAt m) R k l n o in
+    let r = c .answer .ensures ∙ ap (λ (f : Refusal). residentAnswer (c .before .zero-head .result) f k l n) e ∙ answered-refused (c .before .zero-head .result) (headAt m) R k l n o in
     let w = ap (λ (x : Built). x .refusal) r in (
       r,
       a .1 ∙ left m x t h,

@@ -12,10 +12,10 @@ use Rattle.format.proofs.First.{each-passes}
 use Rattle.entries.proofs.Entries.{lengths-of, entry-keeps}
 use Rattle.segment.specs.Record.{recordOk}
 use Rattle.resident.specs.Build.{codesUpto, scalesUpto, normsUpto}
-use Rattle.rows.specs.Rows.{rowOf}
+use Rattle.encoded_rows.specs.Rows.{rowOf}
 use Rattle.segment.proofs.Records.{Good, good}
-use Rattle.rows.proofs.Written.{own-codes}
-use Rattle.rows.proofs.Joined.{store-none, length-stored, part-turn, element-turn}
+use Rattle.encoded_rows.proofs.Written.{own-codes}
+use Rattle.le.proofs.Joined.{store-none, length-stored, part-turn, element-turn}
 use Rattle.resident.proofs.Rows.{room, part-length, same-row, asks, norm-stored}
 use Rattle.resident.proofs.fill.Statement.{statement}
 use Rattle.resident.proofs.fill.Tie as tie

@@ -1,10 +1,10 @@
 use borrow.Author.Needs.{needs}
-use Rattle.resident.specs.Build.{lengthsOk}
+use Rattle.resident.specs.Build.{residentLengthsOk}
 use Rattle.resident.proofs.lengths_hold.Statement.{statement}
 use Rattle.resident.proofs.lengths_hold.Tie as tie
 
 returns : tie.Need-returns
-unfolding lengthsOk
+unfolding residentLengthsOk
 returns c = rw (c .room-holds .ensures)
 
 pub lengths-hold-spec : {M : Type 1} → statement M

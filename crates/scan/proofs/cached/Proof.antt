@@ -11,7 +11,7 @@ use Rattle.quantized_cache.specs.Open.{rowStart, cachedAt}
 use Rattle.quantized_cache.proofs.Opens.{Lies, lies}
 use Rattle.search_spec.specs.Lent.{given, everyone}
 use Rattle.search_spec.specs.Lists.{isEligible}
-use Rattle.eligible.specs.Walk.{Walked}
+use Rattle.eligible.specs.Walk.{CursorAt}
 use Rattle.eligible.proofs.Walk.{begun, count-none, count-next, count-low}
 use Rattle.cosine.proofs.Far.{never}
 use Rattle.scan.specs.Far.{Limits, Entered}
@@ -22,7 +22,7 @@ use Rattle.scan.proofs.cached.Tie as tie
 
 abbrev Inv-loop : tie.InvT-loop
 Inv-loop levels m layout all sorted metric cache q query root ks₀ rs₀ rows stride at₀ row₀ cursor₀ total₀ count₀ top₀ t₀ ks rs at row cursor total count top t =
-    (row ≤ rows) × (at ≡ rowStart (length cache) rows (length q) row) × Walked m sorted cursor row
+    (row ≤ rows) × (at ≡ rowStart (length cache) rows (length q) row) × CursorAt m sorted cursor row
     × Scanning levels m (isEligible (given all sorted) everyone m) (cachedAt (rowsOf m) (dimensionsOf m) cache) (viewOf (query .scale) (query .norm) q) (length ks₀) row ks rs count top
     × Limits metric (query .norm) top t × (total ≡ length (passing (isEligible (given all sorted) everyone m) row))
 

@@ -10,7 +10,7 @@ use Rattle.row.specs.Answer.{viewOf}
 use Rattle.resident.specs.Build.{residentAt}
 use Rattle.search_spec.specs.Lent.{given, everyone}
 use Rattle.search_spec.specs.Lists.{isEligible}
-use Rattle.eligible.specs.Walk.{Walked}
+use Rattle.eligible.specs.Walk.{CursorAt}
 use Rattle.eligible.proofs.Walk.{begun, count-none, count-next, count-low}
 use Rattle.cosine.proofs.Far.{never}
 use Rattle.scan.specs.Far.{Limits, Entered}
@@ -21,7 +21,7 @@ use Rattle.scan.proofs.resident.Tie as tie
 
 abbrev Inv-loop : tie.InvT-loop
 Inv-loop levels m layout all sorted metric codes scales norms q query root ks₀ rs₀ rows stride at₀ row₀ cursor₀ total₀ count₀ top₀ t₀ ks rs at row cursor total count top t =
-    (row ≤ rows) × (at ≡ row * length q) × Walked m sorted cursor row
+    (row ≤ rows) × (at ≡ row * length q) × CursorAt m sorted cursor row
     × Scanning levels m (isEligible (given all sorted) everyone m) (residentAt (dimensionsOf m) codes scales norms) (viewOf (query .scale) (query .norm) q) (length ks₀) row ks rs count top
     × Limits metric (query .norm) top t × (total ≡ length (passing (isEligible (given all sorted) everyone m) row))
 

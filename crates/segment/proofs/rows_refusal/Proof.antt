@@ -6,14 +6,14 @@ use lib.ListN.{length, getD, length-map}
 use borrow.Author.Tests.{eq-eqb, ne-eqb}
 use Rattle.manifest.specs.Scratch.{keyRow}
 use Rattle.segment.specs.Record.{recordOk}
-use Rattle.segment.specs.Check.{badRecord, rowsRefusal}
+use Rattle.segment.specs.Check.{badRecord, segmentRecordsRefusal}
 use Rattle.segment.proofs.Places.{row-at}
 use Rattle.format.proofs.First.{first-within}
 use Rattle.segment.proofs.rows_refusal.Statement.{statement}
 use Rattle.segment.proofs.rows_refusal.Tie as tie
 
 returns : tie.Need-returns
-unfolding rowsRefusal
+unfolding segmentRecordsRefusal
 returns c =
     let a = c .before .before .before .before .before .before .before .args in
     let e = c .before .before .before .bad-record .ensures in
@@ -33,13 +33,13 @@ none-bad c =
     omega (arith, w, e, n, c .if1 .left)
 
 returns-2 : tie.Need-returns-2
-unfolding rowsRefusal
+unfolding segmentRecordsRefusal
 returns-2 c =
     let a = c .before .before .before .before .before .before .before .args in
     rw (eq-eqb (badRecord (a .m .now) (a .s .now) (map keyRow (a .keys .now))) (length (map keyRow (a .keys .now))) (none-bad (c .before .before)), ← c .before .crc-holds .ensures, c .if2 .taken)
 
 returns-3 : tie.Need-returns-3
-unfolding rowsRefusal
+unfolding segmentRecordsRefusal
 returns-3 c =
     let a = c .before .before .before .before .before .before .before .args in
     rw (eq-eqb (badRecord (a .m .now) (a .s .now) (map keyRow (a .keys .now))) (length (map keyRow (a .keys .now))) (none-bad (c .before .before)), ← c .before .crc-holds .ensures, c .if2 .left)

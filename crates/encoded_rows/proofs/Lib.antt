@@ -1,0 +1,3 @@
+-- Laws of a library's rows.
+pub mod Written
+pub mod Ordered

@@ -1,4 +1,0 @@
--- Laws of a library's rows.
-pub mod Joined
-pub mod Written
-pub mod Ordered
