@@ -12,6 +12,7 @@ use Rattle.config.specs.declared.Refusal.{Refusal}
 use Rattle.config.proofs.Refusals.{then-rest, then-first, is-other}
 use Rattle.format.specs.Fields.{storedCrc}
 use Rattle.format.specs.Head.{opensOk, headNumber}
+use Rattle.utf8.specs.Grammar.{span}
 use Rattle.cache_format.specs.Sizing.{defaultOptions}
 use Rattle.entries.specs.Plan.{planNumber}
 use Rattle.manifest.specs.Check.{manifestNumber, checkedBy, checked}
@@ -23,7 +24,7 @@ use Rattle.listing_text.specs.Listing.{mostPlaces}
 use Rattle.listing.specs.Output.{admitted}
 
 short-number : (m : List ℕ) (expected : ℕ) → length m < 66 → manifestNumber m expected mostPlaces ≡ 1
-unfolding manifestNumber planNumber headNumber opensOk
+unfolding manifestNumber planNumber headNumber opensOk span
 short-number m expected h = rw (lt-leb 66 (length m) h)
 
 module _ (m s cache platform root : List ℕ) (crc : ℕ) (own : 4 ≤ length m → crc ≡ storedCrc m) where

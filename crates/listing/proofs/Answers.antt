@@ -14,7 +14,7 @@ use Rattle.listing_text.specs.Listing.{refusalText}
 use Rattle.listing_input.specs.Files.{Files, inputOf}
 use Rattle.listing_input.specs.Parts.{queryOf, kOf, limitOf}
 use Rattle.listing_input.specs.declared.Input.{Input}
-use Rattle.listing.specs.Output.{lentAnswers, lentWork, callOn, admission, found, listRefusal, answerText, answerText, textOf, output}
+use Rattle.listing.specs.Output.{lentAnswers, lentWork, callOn, admission, found, listRefusal, answerText, listAnswer, textOf, output}
 
 pub query-read : (d : List Float) (query : List ℕ) → take (length query / 4) (paste d 0 (queryOf query)) ≡ queryOf query
 unfolding queryOf
@@ -25,14 +25,14 @@ pub call-read : (m s query call : List ℕ) (values : List Float) (k limit : ℕ
 unfolding callOn kOf limitOf
 call-read m s query call values k limit e f g = rw (e, f, g)
 
-pub refused-answer : (f : Files) → (admission f .refusal .number ≡ 0 → ⊥) → refusalText (admission f .refusal) ≡ answerText f
-unfolding answerText answerText listRefusal
+pub refused-answer : (f : Files) → (admission f .refusal .number ≡ 0 → ⊥) → refusalText (admission f .refusal) ≡ listAnswer f
+unfolding listAnswer answerText listRefusal
 refused-answer f h = rw (then-first (admission f .refusal) (found f .refusal) h) (sym (is-other (admission f .refusal) _ _ h))
 
-pub found-answer : (f : Files) → admission f .refusal .number ≡ 0 → answerText (found f .refusal) (found f .report) (found f .list) ≡ answerText f
-unfolding answerText listRefusal
+pub found-answer : (f : Files) → admission f .refusal .number ≡ 0 → answerText (found f .refusal) (found f .report) (found f .list) ≡ listAnswer f
+unfolding listAnswer listRefusal
 found-answer f e = rw (then-rest (admission f .refusal) (found f .refusal) e)
 
-pub output-is : (f : Files) (i : Input) → inputOf f ≡ i → textOf i (answerText f) ≡ output f
+pub output-is : (f : Files) (i : Input) → inputOf f ≡ i → textOf i (listAnswer f) ≡ output f
 unfolding output
 output-is f i e = rw e

@@ -16,7 +16,7 @@ use Rattle.config.specs.declared.Refusal.{Refusal}
 use Rattle.quantization.specs.View.{validRow}
 use Rattle.quantization.specs.Encoder.{baseLevels}
 use Rattle.row.specs.Distance.{approximate}
-use Rattle.row.specs.Answer.{measured, answer as rowAnswerOf, rowAnswer, listRefusal as rowRefusalOf}
+use Rattle.row.specs.Answer.{measured, answer as rowAnswerOf, rowAnswer, refusalOf as rowRefusalOf}
 use Rattle.format.specs.Order.{orElse, firstBad, firstRefusal}
 use Rattle.format.specs.Fields.{modelLength, dimensionsOf, segmentsOf, rowsOf, metricAt, storedCrc}
 use Rattle.format.specs.Head.{opensOk, kindOk, identityOk, countsOk, headNumber}

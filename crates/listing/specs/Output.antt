@@ -63,8 +63,8 @@ listRefusal f = thenRefusal (admission f .refusal) (found f .refusal)
 unfoldable pub answerText : Refusal → Report → List Place → List ℕ
 answerText refusal report list = unlessRefused refusal (listing report (map lineOf list)) (refusalText refusal)
 
-unfoldable pub answerText : Files → List ℕ
-answerText f = answerText (listRefusal f) (found f .report) (found f .list)
+unfoldable pub listAnswer : Files → List ℕ
+listAnswer f = answerText (listRefusal f) (found f .report) (found f .list)
 
 -- "`too long` alone", "`bad input` alone", or what the whole files give
 abbrev pub textOf : Input → List ℕ → List ℕ
@@ -73,7 +73,7 @@ textOf BadInput whole = badInput
 textOf Whole whole = whole
 
 unfoldable pub output : Files → List ℕ
-output f = textOf (inputOf f) (answerText f)
+output f = textOf (inputOf f) (listAnswer f)
 
 -- readings R37: "slices are sized so that 11 and 20 never show"
 pub record NeverShort (f : Files) : Type 0 where

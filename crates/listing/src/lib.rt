@@ -12,7 +12,7 @@ ghost use Rattle.listing_text.specs.Listing.{mostPlaces, listingBytes};
 ghost use Rattle.listing_input.specs.Files.{maxFileBytes, filesOf};
 ghost use Rattle.listing_input.specs.declared.There.{There};
 ghost use Rattle.listing_input.specs.Parts.{newlineAt};
-ghost use Rattle.listing.specs.Output.{admitted, lentAnswers, lentWork, callOn, answerText, answerText as answerOf, output};
+ghost use Rattle.listing.specs.Output.{admitted, lentAnswers, lentWork, callOn, answerText, listAnswer as answerOf, output};
 use cache_format::Options;
 use config::Refusal;
 use listing_input::Input;

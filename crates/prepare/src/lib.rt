@@ -68,7 +68,8 @@ pub fn put_crc(cache: &mut [u8], end: usize)
 }
 
 fn store_rows(m: &[u8], layout: Layout, starts: &[u64; 1025], s: &[u8], cache: &mut [u8], at: usize)
-    requires { ⌜ LaidOut (now m) layout × (rowsOk (now m) ≡ true) × (now starts ≡ startsOf (now m)) × (lowestBad (now m) (now s) ≡ rowsOf (now m))
+    requires { ⌜ LaidOut (now m) layout × (rowsOk (now m) ≡ true) × (now starts ≡ startsOf (now m))
+        × (lowestBad (now m) (now s) ≡ rowsOf (now m))
         × (at + rowsOf (now m) * rowLength (dimensionsOf (now m)) ≤ length (now cache)) ⌝ }
     ensures { λ r. ⌜ now (cache .exit) ≡ paste (now (cache .entry)) at (rowsBytes baseLevels midpoints (now (m .entry)) (now (s .entry)) (rowsOf (now (m .entry)))) ⌝ }
 {
@@ -89,7 +90,8 @@ fn store(
     cache: &mut [u8],
     size: usize,
 )
-    requires { ⌜ LaidOut (now m) layout × (rowsOk (now m) ≡ true) × (now starts ≡ startsOf (now m)) × (lowestBad (now m) (now s) ≡ rowsOf (now m))
+    requires { ⌜ LaidOut (now m) layout × (rowsOk (now m) ≡ true) × (now starts ≡ startsOf (now m))
+        × (lowestBad (now m) (now s) ≡ rowsOf (now m))
         × (size ≡ sizeOf (now m) (now platform) (now root)) × Lent (now platform) (now root) (now m) size × (size ≤ length (now cache)) ⌝ }
     ensures { λ r. ⌜ now (cache .exit) ≡ cacheOf (now (m .entry)) (now (s .entry)) (now (platform .entry)) (now (root .entry)) ++ drop size (now (cache .entry)) ⌝ }
 {

@@ -143,7 +143,8 @@ fn store(
     scales: &mut [f64],
     norms: &mut [i64],
 )
-    requires { ⌜ LaidOut (now m) layout × (rowsOk (now m) ≡ true) × (now starts ≡ startsOf (now m)) × (lowestBad (now m) (now s) ≡ rowsOf (now m))
+    requires { ⌜ LaidOut (now m) layout × (rowsOk (now m) ≡ true) × (now starts ≡ startsOf (now m))
+        × (lowestBad (now m) (now s) ≡ rowsOf (now m))
         × Levels levels ⌝ }
     requires { ⌜ (rowsOf (now m) * dimensionsOf (now m) ≤ length (now codes)) × (rowsOf (now m) ≤ length (now scales))
         × (rowsOf (now m) ≤ length (now norms)) ⌝ }
