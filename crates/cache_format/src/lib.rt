@@ -139,7 +139,7 @@ pub fn sizing_number(
 
 // ---- The head.
 
-fn put_bytes(cache: &mut [u8], at: usize, s: &[u8])
+pub fn put_bytes(cache: &mut [u8], at: usize, s: &[u8])
     requires { ⌜ at + length (now s) ≤ length (now cache) ⌝ }
     ensures { λ r. ⌜ now (cache .exit) ≡ paste (now (cache .entry)) at (now (s .entry)) ⌝ }
 {

@@ -7,7 +7,8 @@ ghost use lib.Dec.{eqb};
 ghost use lib.ListN.{length, take, drop, replicate};
 ghost use Rattle.le.specs.Le.{leAt};
 ghost use Rattle.utf8.specs.Grammar.{span as inside};
-ghost use Rattle.format.specs.Fields.{modelLength, metricAt, lengthOf, crcOf};
+ghost use Rattle.config.specs.Metric.{metricOf};
+ghost use Rattle.format.specs.Fields.{modelLength, metricIn, metricAt, lengthOf, crcOf};
 ghost use Rattle.format.specs.Head.{opensOk, kindOk, identityOk, countsOk, headNumber, badLength, lengthsOk, configAt, headAt, zeroHead};
 ghost use Rattle.format.specs.Layout.{LaidOut};
 ghost use Rattle.format.specs.Same.{sameBytes, sameConfig, sameFields, sameHead};
@@ -60,15 +61,22 @@ fn span(low: usize, high: usize, x: usize) -> bool
 
 // ---- The head.
 
-pub fn metric(m: &[u8]) -> Metric
-    requires { ⌜ 66 ≤ length (now m) ⌝ }
-    ensures { λ r. ⌜ r ≡ metricAt (now (m .entry)) ⌝ }
+// The metric of a byte that names one.
+pub fn metric_of(b: u8) -> Metric
+    ensures { λ r. ⌜ r ≡ metricIn (metricOf b) ⌝ }
 {
-    let answer = Metric::from_byte(m[44]);
+    let answer = Metric::from_byte(b);
     match answer {
         MetricAnswer::Known(known) => known,
         MetricAnswer::Refused(refusal) => Metric::SquaredL2,
     }
+}
+
+pub fn metric(m: &[u8]) -> Metric
+    requires { ⌜ 66 ≤ length (now m) ⌝ }
+    ensures { λ r. ⌜ r ≡ metricAt (now (m .entry)) ⌝ }
+{
+    metric_of(m[44])
 }
 
 fn read_config(m: &[u8]) -> Config
@@ -162,14 +170,15 @@ pub fn head_number(m: &[u8]) -> u32
     0
 }
 
-fn read_model(m: &[u8], n: usize) -> [u8; 512]
-    requires { ⌜ (49 + n ≤ length (now m)) × (n ≤ 512) ⌝ }
-    ensures { λ r. ⌜ r ≡ take n (drop 49 (now (m .entry))) ++ replicate (512 - n) 0 ⌝ }
+// The n bytes at a place, with zeros after them.
+pub fn read_model(b: &[u8], at: usize, n: usize) -> [u8; 512]
+    requires { ⌜ (at + n ≤ length (now b)) × (n ≤ 512) ⌝ }
+    ensures { λ r. ⌜ r ≡ take n (drop at (now (b .entry))) ++ replicate (512 - n) 0 ⌝ }
 {
     let mut model = [0u8; 512];
     let mut i = 0;
     while i < n {
-        model[i] = m[49 + i];
+        model[i] = b[at + i];
         i += 1;
     }
     model
@@ -187,7 +196,7 @@ pub fn read_head(m: &[u8]) -> Head
         sequence: le::u64_at(m, 16),
         config: read_config(m),
         model_length: n,
-        model: read_model(m, n),
+        model: read_model(m, 49, n),
         segments: count_at(m, 49 + n),
         rows: le::u64_at(m, 53 + n) as usize,
     }

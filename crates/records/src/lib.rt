@@ -5,6 +5,7 @@ ghost use lib.ListN.{length};
 ghost use Rattle.records.specs.Records.{recordsRoomOk, placeRecord, planOf, handOutRefusal, handedOut};
 use config::Refusal;
 
+#[repr(C)]
 pub struct Record {
     pub distance: f64,
     pub id: u64,

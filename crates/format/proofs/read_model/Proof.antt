@@ -10,20 +10,21 @@ use Rattle.format.proofs.read_model.Statement.{statement}
 use Rattle.format.proofs.read_model.Tie as tie
 
 abbrev Inv-loop : tie.InvT-loop
-Inv-loop m n model₀ i₀ model i = (i ≤ n) × (length model ≡ 512) × (model ≡ take i (drop 49 m) ++ drop i (replicate 512 0))
+Inv-loop b at n model₀ i₀ model i = (i ≤ n) × (length model ≡ 512) × (model ≡ take i (drop at b) ++ drop i (replicate 512 0))
 
 abbrev μ-loop : tie.MeasureT-loop
-μ-loop m n model₀ i₀ model i = n - i
+μ-loop b at n model₀ i₀ model i = n - i
 
 turn : tie.Need-loop-again Inv-loop μ-loop
 turn c =
     let b = c .before .before .before in
     let L = c .before .before .loop in
-    let s = b .args .m .now in
+    let s = b .args .b .now in
+    let at = b .args .at in
     let i = L .i in
-    let h : i < length (drop 49 s) = rw (length-drop 49 s) (omega (arith, b .pre .0)) in
-    let e : getD s (49 + i) 0 ≡ getD (drop 49 s) i 0 = sym (getD-drop 49 s i 0) in
-    (search needs, length-set (L .model) i (getD s (49 + i) 0) ∙ L .inv .1, ap (λ l. set l i (getD s (49 + i) 0)) (L .inv .2) ∙ copy-turn (drop 49 s) (replicate 512 0) i 0 h (rw (length-replicate {A = ℕ} 512 0) (omega (arith, b .pre .1))) e)
+    let h : i < length (drop at s) = rw (length-drop at s) (omega (arith, b .pre .0)) in
+    let e : getD s (at + i) 0 ≡ getD (drop at s) i 0 = sym (getD-drop at s i 0) in
+    (search needs, length-set (L .model) i (getD s (at + i) 0) ∙ L .inv .1, ap (λ l. set l i (getD s (at + i) 0)) (L .inv .2) ∙ copy-turn (drop at s) (replicate 512 0) i 0 h (rw (length-replicate {A = ℕ} 512 0) (omega (arith, b .pre .1))) e)
 
 pub read-model-spec : {M : Type 1} → statement M
 read-model-spec =

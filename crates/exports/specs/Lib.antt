@@ -1,2 +1,0 @@
--- What the exported searches are handed and answer.
-pub mod Search
