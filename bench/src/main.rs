@@ -6,9 +6,11 @@ mod bytes;
 mod codes;
 mod distances;
 mod encoder;
+mod random;
 mod timing;
 
-pub use timing::{Rng, ratio, record};
+pub use random::Rng;
+pub use timing::{ratio, record};
 
 fn main() {
     for part in std::env::args().skip(1) {

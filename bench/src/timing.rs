@@ -1,35 +1,32 @@
-//! Random data, and ratios of times, for this program, bench/library, bench/cache and bench/search; each uses a part.
+//! Ratios of times, for this program and bench/entries; each uses a part.
 #![allow(dead_code)]
 use std::time::Instant;
-
-/// SplitMix64.
-pub struct Rng(pub u64);
-impl Rng {
-    pub fn next(&mut self) -> u64 {
-        self.0 = self.0.wrapping_add(0x9e37_79b9_7f4a_7c15);
-        let mut z = self.0;
-        z = (z ^ (z >> 30)).wrapping_mul(0xbf58_476d_1ce4_e5b9);
-        z = (z ^ (z >> 27)).wrapping_mul(0x94d0_49bb_1331_11eb);
-        z ^ (z >> 31)
-    }
-    fn unit(&mut self) -> f64 {
-        ((self.next() >> 11) as f64 + 1.0) / 9007199254740993.0
-    }
-    /// Standard normal (Box and Muller).
-    pub fn normal(&mut self) -> f32 {
-        ((-2.0 * self.unit().ln()).sqrt() * (std::f64::consts::TAU * self.unit()).cos()) as f32
-    }
-}
 
 pub fn record(v: &[f32]) -> Vec<u8> {
     v.iter().flat_map(|x| x.to_le_bytes()).collect()
 }
 
-/// Medians over alternated runs, each of some calls: of ours / theirs, and of the nanoseconds of a call of each.
+/// The median, and what a tenth of the runs stay below and above.
+#[derive(Clone, Copy)]
+pub struct Spread {
+    pub median: f64,
+    pub low: f64,
+    pub high: f64,
+}
+impl Spread {
+    fn of(mut runs: Vec<f64>) -> Self {
+        runs.sort_by(f64::total_cmp);
+        let tenth = runs.len() / 10;
+        Spread { median: runs[runs.len() / 2], low: runs[tenth], high: runs[runs.len() - 1 - tenth] }
+    }
+}
+
+/// Over alternated runs, each of some calls: ours / theirs, and the nanoseconds of a call of each.
+#[derive(Clone, Copy)]
 pub struct Times {
-    pub ratio: f64,
-    pub ours: f64,
-    pub theirs: f64,
+    pub ratio: Spread,
+    pub ours: Spread,
+    pub theirs: Spread,
 }
 
 pub fn times(runs: usize, calls: u32, ours: impl FnMut(), theirs: impl FnMut()) -> Times {
@@ -45,7 +42,7 @@ pub fn processor_times(runs: usize, calls: u32, ours: impl FnMut(), theirs: impl
 
 /// Nanoseconds of the thread's processor time (Linux, CLOCK_THREAD_CPUTIME_ID).
 fn processor_time() -> f64 {
-    extern "C" {
+    unsafe extern "C" {
         fn clock_gettime(clock: i32, time: *mut [i64; 2]) -> i32;
     }
     let mut time = [0; 2];
@@ -76,14 +73,11 @@ fn times_by(clock: impl Fn() -> f64, runs: usize, calls: u32, mut ours: impl FnM
         all[1].push(a);
         all[2].push(b);
     }
-    let [ratio, ours, theirs] = all.map(|mut v| {
-        v.sort_by(f64::total_cmp);
-        v[runs / 2]
-    });
+    let [ratio, ours, theirs] = all.map(Spread::of);
     Times { ratio, ours, theirs }
 }
 
 /// The median of ours / theirs.
 pub fn ratio(ours: impl FnMut(), theirs: impl FnMut()) -> f64 {
-    times(41, 4, ours, theirs).ratio
+    times(41, 4, ours, theirs).ratio.median
 }
