@@ -34,15 +34,15 @@ pub mod beside {
     use std::{
         env, fs,
         path::{Path, PathBuf},
-        process,
     };
 
-    /// A directory of this process under the system's temporary one, removed when dropped.
+    /// A directory under the system's temporary one, removed when dropped: the first of NAME-0 to NAME-9 that is not there yet, so that one
+    /// program after the other has the same path, which a cache's identity holds.
     pub struct Temp(pub PathBuf);
     impl Temp {
         pub fn new(name: &str) -> Self {
-            let path = env::temp_dir().join(format!("{name}-{:010}", process::id()));
-            fs::create_dir(&path).unwrap();
+            let mut paths = (0..10).map(|n| env::temp_dir().join(format!("{name}-{n}")));
+            let path = paths.find(|path| fs::create_dir(path).is_ok()).expect("no directory can be made under TMPDIR");
             Temp(fs::canonicalize(path).unwrap())
         }
     }
