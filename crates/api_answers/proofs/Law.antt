@@ -33,12 +33,12 @@ no-head head rows c looked other ids = rw (ids, other) refl
 pub law : Law
 unfolding checkedBy sizedBy openedBy preparedBy residentAnswer infoNumbers searched agreed cacheIn residentIn
 law = record {
-  checking = λ m crc room n. rw (ne-eqb _ 0 n) zero-head;
-  library-check = λ m crc room s n. rw (ne-eqb _ 0 n) zero-head;
-  sizing = λ m crc room platform root o n. rw (ne-eqb _ 0 n) refl;
-  preparing = λ m crc room s platform root o cache n. rw (ne-eqb _ 0 n) refl;
-  opening = λ m crc room cache platform root o n. rw (ne-eqb _ 0 n) zero-cache;
-  building = λ m crc room s codes scales norms n. rw (ne-eqb _ 0 n) zero-resident;
+  checking = λ m crc scratch n. rw (ne-eqb _ 0 n) zero-head;
+  library-check = λ m crc scratch s n. rw (ne-eqb _ 0 n) zero-head;
+  sizing = λ m crc scratch platform root o n. rw (ne-eqb _ 0 n) refl;
+  preparing = λ m crc scratch s platform root o cache n. rw (ne-eqb _ 0 n) refl;
+  opening = λ m crc scratch cache platform root o n. rw (ne-eqb _ 0 n) zero-cache;
+  building = λ m crc scratch s codes scales norms n. rw (ne-eqb _ 0 n) zero-resident;
   search = λ head rows c. silent _ rows c _;
   agreement = λ head rows c. silent _ rows c _;
   no-cache = λ b h cache c ids. let other = no-metric b 96 h (c .manifest) in (no-head _ _ c _ other ids, no-head _ _ c _ other ids);

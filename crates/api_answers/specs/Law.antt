@@ -31,17 +31,18 @@ Refuses refusal = refusal .number ≡ 0 → ⊥
 abbrev pub Silent : Outcome → Type 0
 Silent o = Refuses (o .refusal) → (reportNumbers (o .report) ≡ replicate 7 0) × (o .agreement ≡ 0)
 
+-- `scratch` is the length of the scratch slice
 pub record Law : Type 0 where
   -- "All counts are then 0" (document 01, What each place turns away); readings R23: "the state returned by a refused check, opening or building is all zero"
-  pub checking : (m : List ℕ) (crc room : ℕ) → let a = checked m crc room in Refuses (a .refusal) → headBytes (a .head) ≡ replicate 600 0
-  pub library-check : (m : List ℕ) (crc room : ℕ) (s : List ℕ) → let a = checkedLibrary m crc room s in Refuses (a .refusal) → headBytes (a .head) ≡ replicate 600 0
-  pub sizing : (m : List ℕ) (crc room : ℕ) (platform root : List ℕ) (o : Options) → let a = sized m crc room platform root o in Refuses (a .refusal) → a .size ≡ 0
-  pub preparing : (m : List ℕ) (crc room : ℕ) (s platform root : List ℕ) (o : Options) (cache : ℕ)
-      → let a = prepared m crc room s platform root o cache in Refuses (a .refusal) → infoNumbers (a .info) ≡ replicate 5 0
-  pub opening : (m : List ℕ) (crc room : ℕ) (cache platform root : List ℕ) (o : Options)
-      → let a = opened m crc room cache platform root o in Refuses (a .refusal) → cacheBytes (a .state) ≡ replicate 608 0
-  pub building : (m : List ℕ) (crc room : ℕ) (s : List ℕ) (codes scales norms : ℕ)
-      → let a = built m crc room s codes scales norms in Refuses (a .refusal) → residentBytes (a .state) ≡ replicate 624 0
+  pub checking : (m : List ℕ) (crc scratch : ℕ) → let a = checked m crc scratch in Refuses (a .refusal) → headBytes (a .head) ≡ replicate 600 0
+  pub library-check : (m : List ℕ) (crc scratch : ℕ) (s : List ℕ) → let a = checkedLibrary m crc scratch s in Refuses (a .refusal) → headBytes (a .head) ≡ replicate 600 0
+  pub sizing : (m : List ℕ) (crc scratch : ℕ) (platform root : List ℕ) (o : Options) → let a = sized m crc scratch platform root o in Refuses (a .refusal) → a .size ≡ 0
+  pub preparing : (m : List ℕ) (crc scratch : ℕ) (s platform root : List ℕ) (o : Options) (cache : ℕ)
+      → let a = prepared m crc scratch s platform root o cache in Refuses (a .refusal) → infoNumbers (a .info) ≡ replicate 5 0
+  pub opening : (m : List ℕ) (crc scratch : ℕ) (cache platform root : List ℕ) (o : Options)
+      → let a = opened m crc scratch cache platform root o in Refuses (a .refusal) → cacheBytes (a .state) ≡ replicate 608 0
+  pub building : (m : List ℕ) (crc scratch : ℕ) (s : List ℕ) (codes scales norms : ℕ)
+      → let a = built m crc scratch s codes scales norms in Refuses (a .refusal) → residentBytes (a .state) ≡ replicate 624 0
   pub search : (head : Head) (rows : Rows) (c : Call) → Silent (searched head rows c)
   pub agreement : (head : Head) (rows : Rows) (c : Call) → Silent (agreed head rows c)
   -- readings R3: bytes with a metric over 2, which no opening and no building leaves, are refused with 21 at 0 for every manifest and call; before it

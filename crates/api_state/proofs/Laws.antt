@@ -23,7 +23,8 @@ use Rattle.quantized_cache.specs.declared.CacheState.{CacheState}
 use Rattle.quantized_cache.specs.Open as O
 use Rattle.resident.specs.declared.ResidentState.{ResidentState}
 use Rattle.resident.specs.Build as D
-use Rattle.api_state.specs.Bytes.{words, headNumbers, stateBytes, StateFits, headAt, headBytes, headIn, cacheBytes, cacheIn, residentBytes, residentIn}
+use Rattle.api_state.specs.Bytes.{words, headNumbers, stateBytes, headAt, headBytes, headIn, cacheBytes, cacheIn, residentBytes, residentIn}
+use Rattle.api_state.specs.Fits.{StateFits}
 use Rattle.api_state.proofs.Words.{length-words, words-append, word-at}
 
 -- ---- writing

@@ -8,7 +8,8 @@ use lib.Seq.{take-at, drop-append-add, take-suc, length-take-le}
 use Rattle.le.specs.Le.{le, leAt, bytes, paste}
 use Rattle.le.proofs.LeLaws.{length-bytes, le-bytes-all}
 use Rattle.le.proofs.Pastes.{paste-next}
-use Rattle.api_state.specs.Bytes.{words, Fit}
+use Rattle.api_state.specs.Bytes.{words}
+use Rattle.api_state.specs.Fits.{Fit}
 
 pub length-words : (v : List ℕ) → length (words v) ≡ 8 * length v
 unfolding words

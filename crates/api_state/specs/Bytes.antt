@@ -15,12 +15,11 @@
 --     80   rows
 --     88   model             88   cache length    88   codes, 96 scales, 104 norms: the lengths as lent
 --                            96   model           112  model
-use mathlib.Core.Path.{_≡_}
 use mathlib.Core.Bool.{cond}
 use mathlib.Core.List.{List, [], _∷_, _++_}
-use Prim.Native.Nat.{ℕ, _<_}
+use Prim.Native.Nat.{ℕ}
 use lib.Dec.{leb}
-use lib.ListN.{length, take, drop}
+use lib.ListN.{take, drop}
 use Rattle.le.specs.Le.{leAt, bytes}
 use Rattle.config.specs.Metric.{metricOf, byteOf}
 use Rattle.config.specs.declared.Config.{Config}
@@ -35,11 +34,6 @@ unfoldable pub words : List ℕ → List ℕ
 words [] = []
 words (v ∷ vs) = bytes 8 v ++ words vs
 
--- each number is one of 64 bits
-abbrev pub Fit : List ℕ → Type 0
-Fit [] = Unit
-Fit (v ∷ vs) = (v < 18446744073709551616) × Fit vs
-
 unfoldable pub headNumbers : Head → List ℕ
 headNumbers h =
     h .length ∷ h .generation ∷ h .sequence ∷ h .config .dimensions ∷ h .config .m ∷ h .config .«ef_construction» ∷ h .config .seed ∷ byteOf (h .config .metric)
@@ -48,9 +42,6 @@ headNumbers h =
 -- of a head and the state's own numbers
 unfoldable pub stateBytes : Head → List ℕ → List ℕ
 stateBytes h own = words (headNumbers h ++ own) ++ h .model
-
-abbrev pub StateFits : Head → List ℕ → Type 0
-StateFits h own = Fit (headNumbers h ++ own) × (length (h .model) ≡ 512)
 
 abbrev pub headBytes : Head → List ℕ
 headBytes h = stateBytes h []

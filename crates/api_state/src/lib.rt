@@ -3,7 +3,8 @@ ghost use mathlib.Core.Path.{_≡_};
 ghost use Prim.Native.Nat.{_+_, _*_, _≤_};
 ghost use lib.ListN.{length};
 ghost use Rattle.le.specs.Le.{leAt, paste};
-ghost use Rattle.api_state.specs.Bytes.{words, Fit, headNumbers, stateBytes, StateFits, configIn, headAt, headBytes, headIn, cacheBytes, cacheIn, residentBytes, residentIn};
+ghost use Rattle.api_state.specs.Bytes.{words, headNumbers, stateBytes, configIn, headAt, headBytes, headIn, cacheBytes, cacheIn, residentBytes, residentIn};
+ghost use Rattle.api_state.specs.Fits.{Fit, StateFits};
 use config::Config;
 use format::Head;
 
