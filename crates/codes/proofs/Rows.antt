@@ -118,6 +118,20 @@ pub code-checked : {levels : ℕ} {x z : ℤ} {w v : ℕ} {b t : Bool} → z ≡
     → CodeChecked levels x w (w + v) b (b && t)
 code-checked e v t = rw (← e) (record { squared = rw (v .0); size = omega (arith, v .1); whole = rw t })
 
+-- one code more at place m
+check-next : (at m : ℕ) {levels n N : ℕ} {xs : List ℤ} {i : ℕ} {x : ℤ} {w u : ℕ} {b r : Bool} → m ≡ i + n → N ≡ n + 1 → at + m < length xs
+    → x ≡ getD xs (at + m) (pos 0) → CodeChecked levels x w u b r → Checked levels n xs at i w b → Checked levels N xs at i u r
+check-next at m d g h e z A =
+    check-add d g (record { squared = z .squared; whole = z .whole }) A (check-one {i = m} h e (omega (arith, z .squared, z .size)))
+
+pub sums-next : (at m : ℕ) {levels n N : ℕ} {xs ys : List ℤ} {i : ℕ} {x y : ℤ} {s r : Sums} → m ≡ i + n → N ≡ n + 1 → m < length ys
+    → x ≡ getD xs (at + m) (pos 0) → y ≡ getD ys m (pos 0) → CodeAdded levels x y s r → Summed levels n xs at ys i s → Summed levels N xs at ys i r
+sums-next at m d g h e f z A =
+    record {
+      dotted = dot-add d g (z .dotted) (A .dotted) (dot-one {i = m} (A .dotted .row) h e f (z .size));
+      checked = check-next at m d g (omega (arith, A .dotted .row)) e (z .checked) (A .checked);
+    }
+
 -- one code more at place p + j, taken as 0 if that comes before i
 pub check-code : (at i p j k : ℕ) {levels : ℕ} {xs : List ℤ} {x : ℤ} {w u : ℕ} {b r : Bool} → i + k ≡ p + 17 → at + p + j < length xs
     → x ≡ getD xs (at + p + j) (pos 0) → CodeChecked levels (maskedAt j k x) w u b r → Checked levels (p + j - i) xs at i w b
@@ -135,29 +149,27 @@ check-code at i p j k {levels} {xs} {x} {w} {u} {b} {r} d h e t A = ⊎-elim bef
     taken l =
         let z : CodeChecked levels x w u b r = rw (le-ltb (j + k) 17 l) at t in
         let o : at + p + j ≡ at + (p + j) = omega arith in
-        check-add (omega arith) (omega arith) (record { squared = z .squared; whole = z .whole }) A
-        (check-one {i = p + j} (omega arith) (rw o at e) (omega (arith, z .squared, z .size)))
+        check-next at (p + j) (omega arith) (omega arith) (omega arith) (rw o at e) z A
 
 pub sums-code : (at i p j k : ℕ) {levels : ℕ} {xs ys : List ℤ} {x y : ℤ} {s r : Sums} → i + k ≡ p + 17 → p + j < length ys
     → x ≡ getD xs (at + p + j) (pos 0) → y ≡ getD ys (p + j) (pos 0) → CodeAdded levels (maskedAt j k x) y s r
     → Summed levels (p + j - i) xs at ys i s → Summed levels (p + (j + 1) - i) xs at ys i r
-sums-code at i p j k {levels} {xs} {ys} {x} {y} {s} {r} d h e f t A =
-    record {
-      dotted = ⊎-elim before taken (lt-or-le (j + k) 17);
-      checked = check-code at i p j k d (omega (arith, A .dotted .row)) e (t .checked) (A .checked);
-    }
+sums-code at i p j k {levels} {xs} {ys} {x} {y} {s} {r} d h e f t A = ⊎-elim before taken (lt-or-le (j + k) 17)
   where
-    before : j + k < 17 → Dotted (p + (j + 1) - i) xs at ys i (r .dot)
+    before : j + k < 17 → Summed levels (p + (j + 1) - i) xs at ys i r
     before l =
         let z : CodeAdded levels (pos 0) y s r = rw (lt-ltb (j + k) 17 l) at t in
         let n : p + (j + 1) - i ≡ p + j - i = omega arith in
-        rw (n, z .dotted, zero-*ℤ y, +ℤ-idr (s .dot)) (A .dotted)
+        record {
+          dotted = rw (n, z .dotted, zero-*ℤ y, +ℤ-idr (s .dot)) (A .dotted);
+          checked = check-code at i p j k d (omega (arith, A .dotted .row)) e (t .checked) (A .checked);
+        }
 
-    taken : 17 ≤ j + k → Dotted (p + (j + 1) - i) xs at ys i (r .dot)
+    taken : 17 ≤ j + k → Summed levels (p + (j + 1) - i) xs at ys i r
     taken l =
         let z : CodeAdded levels x y s r = rw (le-ltb (j + k) 17 l) at t in
         let o : at + p + j ≡ at + (p + j) = omega arith in
-        dot-add (omega arith) (omega arith) (z .dotted) (A .dotted) (dot-one {i = p + j} (A .dotted .row) h (rw o at e) f (z .size))
+        sums-next at (p + j) (omega arith) (omega arith) h (rw o at e) f z A
 
 -- ---- a part of a row, and the row
 

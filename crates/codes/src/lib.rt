@@ -4,9 +4,11 @@
 // From quantized_cache.rs, `dot_codes` and `validate_row`, and the search loop of quantization.rs.
 //
 // A row is summed in parts of 16 codes: loops of constant length, which LLVM unrolls and vectorises. An odd part of 16 comes first,
-// then the turns of several parts, whose sums LLVM adds in vectors, once a turn. A rest of 1 to 15 is summed as the row's last 16
-// codes, those already summed taken as 0; a row of fewer than 16 goes by 8 codes and one by one. Each function adds to the sums so
-// far, so that its contract speaks of the row up to a place; all of them are inlined.
+// then the turns of several parts, whose sums LLVM adds in vectors, once a turn. A rest of 4 to 15 is summed as the row's last 16
+// codes, those already summed taken as 0; a rest of up to 3 goes one by one, a row of fewer than 16 by 8 codes and one by one. Each
+// function adds to the sums so far, so that its contract speaks of the row up to a place; all of them are inlined.
+// The part that a short row begins with is widened by its bytes (`widened`). LLVM's own sign extension unpacks into whatever a register
+// holds, and where that is the distance of the row before, each row waits for the one before it.
 // LLVM vectorises a sum only if one place uses it. So no turn may be implied by another one's not having run (`row_sums` has its odd
 // turn of 32 before those of 64), and a turn has one caller. The order of the structs' fields, and of the operations on them, matters
 // too: measure each change, with the levels a literal and not.
@@ -56,6 +58,14 @@ fn within(levels: u8, x: i8) -> bool
     (((x as i32 + 256) as u32 + levels as u32) % 256) as u8 <= 2 * levels
 }
 
+// The code in 16 bits, from its byte.
+fn widened(x: i8) -> i16
+    ensures { λ r. ⌜ r ≡ x ⌝ }
+{
+    let byte = ((x as i32 + 256) as u32 % 256) as i16;
+    byte - byte / 128 * 256
+}
+
 // The code x at place j of a part, 0 at the places before 17 - k; 17 takes all. That k is a byte, and of a rest one more than its
 // codes, lets LLVM make the 16 comparisons one vector comparison.
 fn masked(x: i8, j: usize, k: u8) -> i8
@@ -76,6 +86,20 @@ fn add_code(levels: u8, s: Sums, x: i8, y: i16) -> Sums
         whole: s.whole & within(levels, x),
         dot: s.dot + product(x, y),
         squares: s.squares + square(x),
+    }
+}
+
+// The same for the part that a row begins with.
+fn add_first_code(levels: u8, s: Sums, x: i8, y: i16) -> Sums
+    requires { ⌜ natAbs y ≤ 128 ⌝ }
+    requires { ⌜ (natAbs (s .dot) ≤ 1073741824) × (s .squares ≤ 1073741824) × (levels ≤ 127) ⌝ }
+    ensures { λ r. ⌜ CodeAdded levels x y s r ⌝ }
+{
+    let z = widened(x) as i32;
+    Sums {
+        whole: s.whole & within(levels, x),
+        dot: s.dot + z * (y as i32),
+        squares: s.squares + (z * z) as u32,
     }
 }
 
@@ -117,6 +141,25 @@ fn code_at(c: &[u8], p: usize) -> i8
     ensures { λ r. ⌜ r ≡ getD (codes (now (c .entry))) p (pos 0) ⌝ }
 {
     (((c[p] as u32 + 128) % 256) as i32 - 128) as i8
+}
+
+// The sums of the row's first n codes.
+fn sums_first(levels: u8, c: &[u8], at: usize, q: &[i16], n: usize) -> Sums
+    requires { ⌜ (at + length (now q) ≤ length (now c)) × (length (now q) ≤ 65536) × (levels ≤ 127) × (n ≤ 16) × (n ≤ length (now q)) ⌝ }
+    requires { ⌜ Small (now q) ⌝ }
+    ensures { λ r. ⌜ Summed levels n (codes (now (c .entry))) at (now (q .entry)) 0 r ⌝ }
+{
+    let mut s = Sums {
+        dot: 0,
+        squares: 0,
+        whole: true,
+    };
+    let mut j = 0usize;
+    while j < n {
+        s = add_first_code(levels, s, code_at(c, at + j), q[j]);
+        j += 1;
+    }
+    s
 }
 
 // The sums of the row at `at` and the query up to place e, given a, those up to place i: the n codes before e are summed, those
@@ -264,15 +307,15 @@ fn short_sums(levels: u8, c: &[u8], at: usize, q: &[i16]) -> Sums
     requires { ⌜ Small (now q) ⌝ }
     ensures { λ r. ⌜ Summed levels (length (now (q .entry))) (codes (now (c .entry))) at (now (q .entry)) 0 r ⌝ }
 {
-    let s = Sums {
-        dot: 0,
-        squares: 0,
-        whole: true,
-    };
     if q.len() < 8 {
+        let s = Sums {
+            dot: 0,
+            squares: 0,
+            whole: true,
+        };
         return sums_ones(levels, c, at, q, s, 0);
     }
-    let t = sums_part(levels, c, at, q, s, 0, 8, 8);
+    let t = sums_first(levels, c, at, q, 8);
     sums_ones(levels, c, at, q, t, 8)
 }
 
@@ -309,7 +352,7 @@ pub fn row_sums(levels: u8, c: &[u8], at: usize, q: &[i16]) -> Sums
     let mut i = 0usize;
     let mut r = n;
     if 16 <= r % 32 {
-        s = sums_part(levels, c, at, q, s, i, i + 16, 16);
+        s = sums_first(levels, c, at, q, 16);
         i += 16;
         r -= 16;
     }
@@ -327,6 +370,9 @@ pub fn row_sums(levels: u8, c: &[u8], at: usize, q: &[i16]) -> Sums
     }
     if r == 0 {
         return s;
+    }
+    if r < 4 {
+        return sums_ones(levels, c, at, q, s, i);
     }
     sums_part(levels, c, at, q, s, i, n, 16)
 }
@@ -374,6 +420,25 @@ pub fn row_check(levels: u8, c: &[u8], at: usize, n: usize) -> Check
 }
 
 // ---- a resident row
+
+// The sums of the row's first n codes.
+fn sums_first_resident(levels: u8, c: &[i8], at: usize, q: &[i16], n: usize) -> Sums
+    requires { ⌜ (at + length (now q) ≤ length (now c)) × (length (now q) ≤ 65536) × (levels ≤ 127) × (n ≤ 16) × (n ≤ length (now q)) ⌝ }
+    requires { ⌜ Small (now q) ⌝ }
+    ensures { λ r. ⌜ Summed levels n (now (c .entry)) at (now (q .entry)) 0 r ⌝ }
+{
+    let mut s = Sums {
+        dot: 0,
+        squares: 0,
+        whole: true,
+    };
+    let mut j = 0usize;
+    while j < n {
+        s = add_first_code(levels, s, c[at + j], q[j]);
+        j += 1;
+    }
+    s
+}
 
 // The sums of the row at `at` and the query up to place e, given a, those up to place i: the n codes before e are summed, those
 // before i taken as 0.
@@ -528,15 +593,15 @@ fn short_sums_resident(levels: u8, c: &[i8], at: usize, q: &[i16]) -> Sums
     requires { ⌜ Small (now q) ⌝ }
     ensures { λ r. ⌜ Summed levels (length (now (q .entry))) (now (c .entry)) at (now (q .entry)) 0 r ⌝ }
 {
-    let s = Sums {
-        dot: 0,
-        squares: 0,
-        whole: true,
-    };
     if q.len() < 8 {
+        let s = Sums {
+            dot: 0,
+            squares: 0,
+            whole: true,
+        };
         return sums_ones_resident(levels, c, at, q, s, 0);
     }
-    let t = sums_part_resident(levels, c, at, q, s, 0, 8, 8);
+    let t = sums_first_resident(levels, c, at, q, 8);
     sums_ones_resident(levels, c, at, q, t, 8)
 }
 
@@ -573,7 +638,7 @@ pub fn row_sums_resident(levels: u8, c: &[i8], at: usize, q: &[i16]) -> Sums
     let mut i = 0usize;
     let mut r = n;
     if 16 <= r % 32 {
-        s = sums_part_resident(levels, c, at, q, s, i, i + 16, 16);
+        s = sums_first_resident(levels, c, at, q, 16);
         i += 16;
         r -= 16;
     }
@@ -591,6 +656,9 @@ pub fn row_sums_resident(levels: u8, c: &[i8], at: usize, q: &[i16]) -> Sums
     }
     if r == 0 {
         return s;
+    }
+    if r < 4 {
+        return sums_ones_resident(levels, c, at, q, s, i);
     }
     sums_part_resident(levels, c, at, q, s, i, n, 16)
 }

@@ -56,6 +56,21 @@ finite-between (inf true) = refl
 finite-between (inf false) = refl
 finite-between (fin s m e) = refl
 
+-- and one that is above another lies below the greater
+pub finite-over : (b x : Float) → (lt b x && lt x (inf false)) ≡ (lt b x && finite x)
+unfolding lt
+finite-over nan x = refl
+finite-over (inf s) nan = refl
+finite-over (inf true) (inf true) = refl
+finite-over (inf false) (inf true) = refl
+finite-over (inf true) (inf false) = refl
+finite-over (inf false) (inf false) = refl
+finite-over (inf s) (fin t m e) = refl
+finite-over (fin s m e) nan = refl
+finite-over (fin s m e) (inf true) = refl
+finite-over (fin s m e) (inf false) = refl
+finite-over (fin s m e) (fin t n d) = refl
+
 -- ---- what a caller is told
 pub number-finite : (x : Float) → finite x ≡ true → number x ≡ Finite x
 unfolding number
@@ -81,6 +96,14 @@ unfolding lt isNan
 number-of-lt nan y h = absurd (false≢true h)
 number-of-lt (inf s) y h = tt
 number-of-lt (fin s m e) y h = tt
+
+pub number-of-gt : (x y : Float) → lt x y ≡ true → T (not (isNan y))
+unfolding lt isNan
+number-of-gt nan nan h = absurd (false≢true h)
+number-of-gt (inf s) nan h = absurd (false≢true h)
+number-of-gt (fin s m e) nan h = absurd (false≢true h)
+number-of-gt x (inf s) h = tt
+number-of-gt x (fin s m e) h = tt
 
 pub number-of-ne : (x : Float) → ne x x ≡ false → T (not (isNan x))
 unfolding ne isNan

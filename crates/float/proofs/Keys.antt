@@ -1,16 +1,16 @@
 -- The key's order is totalOrder's, on every number that is no NaN, the infinities among them; and the way back from a
 -- key.
-use mathlib.Core.Path.{_≡_, ap, sym, _∙_}
-use mathlib.Core.Bool.{Bool, true, false, not, true≢false}
+use mathlib.Core.Path.{_≡_, refl, ap, sym, _∙_}
+use mathlib.Core.Bool.{Bool, true, false, not, true≢false, false≢true}
 use Prim.Native.Nat.{ℕ, _+_, _-_, _*_, _%_, _^_, _≤_, _<_}
 use native.Mathlib.Decide.{decLt}
 use native.Mathlib.Omega.{arith}
 use lib.Dec.{T, ltb, leb}
-use borrow.Author.Tests.{lt-ltb, le-ltb, lt-leb, le-leb, leb-true}
+use borrow.Author.Tests.{lt-ltb, le-ltb, lt-leb, le-leb, leb-true, ltb-true}
 use lib.Ieee.{Float, nan, inf, fin, binary64, up, down, ofBits, toBits, lt, fits, isNan}
 use lib.Ieee.Bits.{ofBits-toBits, toBits-lt}
 use Rattle.float.specs.Order.{negative, bySign, totalBelow, totalLe, keyOf, bitsOf, keyed}
-use Rattle.float.proofs.BitLaws.{number-below, bits-number, finite-number}
+use Rattle.float.proofs.BitLaws.{number-below, bits-number, finite-number, number-of-lt, number-of-gt}
 use Rattle.float.proofs.Within.{Within}
 use Rattle.float.proofs.Patterns.{same-ltb, sign-bits, lt-signed}
 
@@ -107,6 +107,42 @@ key-below x y f g n m =
 pub key-le : (x y : Float) → T (fits binary64 x) → T (fits binary64 y) → T (not (isNan x)) → T (not (isNan y)) → leb (keyed x) (keyed y) ≡ totalLe x y
 unfolding totalLe
 key-le x y f g n m = not-ltb (keyed x) (keyed y) ∙ ap not (key-below y x g f m n)
+
+-- ---- one that is above the number of a key has a greater key
+below-of-lt : (x y : Float) → lt x y ≡ true → totalBelow x y ≡ true
+unfolding totalBelow isNan lt
+below-of-lt nan y h = absurd (false≢true h)
+below-of-lt (inf s) nan h = absurd (false≢true h)
+below-of-lt (inf true) (inf true) h = h
+below-of-lt (inf true) (inf false) h = refl
+below-of-lt (inf false) (inf true) h = absurd (false≢true h)
+below-of-lt (inf false) (inf false) h = h
+below-of-lt (inf true) (fin true n d) h = h
+below-of-lt (inf true) (fin false n d) h = refl
+below-of-lt (inf false) (fin s n d) h = absurd (false≢true h)
+below-of-lt (fin s m e) nan h = absurd (false≢true h)
+below-of-lt (fin s m e) (inf true) h = absurd (false≢true h)
+below-of-lt (fin true m e) (inf false) h = refl
+below-of-lt (fin false m e) (inf false) h = refl
+below-of-lt (fin true m e) (fin true n d) h = h
+below-of-lt (fin true m e) (fin false n d) h = refl
+below-of-lt (fin false m e) (fin true n d) h = absurd (false≢true h)
+below-of-lt (fin false m e) (fin false n d) h = h
+
+bits-lt : (k : ℕ) → k < 2 ^ 64 → bitsOf k < 2 ^ 64
+bits-lt k h = go (decLt k (2 ^ 63))
+  where
+    go : Dec (k < 2 ^ 63) → bitsOf k < 2 ^ 64
+    go (yes l) = rw (bits-minus k l) (omega arith)
+    go (no l) = rw (bits-plus k (omega arith)) (omega arith)
+
+pub key-over : (k : ℕ) (x : Float) → k < 2 ^ 64 → T (fits binary64 x) → lt (ofBits binary64 (bitsOf k)) x ≡ true → k < keyed x
+key-over k x l f h =
+    let b = bitsOf k in
+    let y = ofBits binary64 b in
+    let n : NotNan b = record { word = bits-lt k l; number = number-below binary64 b (number-of-lt y x h) } in
+    let o = rw (ofBits-toBits binary64 x f, key-bits k l) at (key-order b (toBits binary64 x) n (not-nan x f (number-of-gt y x h))) in
+    ltb-true k (keyed x) (o ∙ below-of-lt y x h)
 
 pub keyed-lt : (x : Float) → T (fits binary64 x) → keyed x < 2 ^ 64
 keyed-lt x f = key-lt (toBits binary64 x) (toBits-lt binary64 x f)

@@ -2,14 +2,14 @@
 -- formats.
 use mathlib.Core.Path.{_≡_, refl, ap, sym, _∙_, subst}
 use mathlib.Core.Logic.{_⊎_, inl, inr}
-use mathlib.Core.Bool.{Bool, true, false, cond, _&&_, and-true, and-false, false≢true}
+use mathlib.Core.Bool.{Bool, true, false, cond, _&&_, and-true, and-false, true≢false, false≢true}
 use Prim.Native.Nat.{ℕ, zero, suc, _+_, _-_, _*_, _/_, _%_, _^_, _≤_, _<_, zero-le}
 use native.Mathlib.Nat.{mul-right-comm, mul-le-mul, mul-le-mul-right, le-refl, two-pow-succ, mul-add, add-mul, mul-assoc, mul-one, mul-lt-mul-of-pos-right, lt-of-mul-lt-mul-right, lt-of-lt-of-le, lt-of-le-of-lt, le-trans, le-of-lt, le-of-eq, eq-or-lt-of-le, mod-lt, mod-mod, mod-mod-of-dvd, dvd-mul-right, mod-eq-of-lt, div-add-mod', div-lt-iff-lt-mul, mul-div-cancel, mul-mod-left, mul-pos, zero-lt-suc}
 use native.Mathlib.Decide.{decLt}
 use native.Mathlib.Omega.{arith}
 use lib.Pow.{pow-pos, pow-mono}
 use lib.Dec.{T, ltb, leb, eqb}
-use borrow.Author.Tests.{lt-ltb, le-ltb, lt-leb, le-leb, eq-eqb, ne-eqb}
+use borrow.Author.Tests.{lt-ltb, le-ltb, lt-leb, le-leb, eq-eqb, ne-eqb, ltb-false}
 use lib.IntN.{ℤ}
 use lib.Ieee.{Float, nan, inf, fin, Format, binary32, binary64, prec, low, hid, top, ones, up, down, odd, ofFields, ofBits, toBits, fits, size, lt, below}
 use lib.Ieee.Exact.{HasValue, odd-sign}
@@ -233,6 +233,22 @@ above-bits b = go (decLt b 9218868437227405312)
             let s = small-bits binary64 b (rw e tt) in
             let t : top binary64 ≤ b = omega arith in
             rw (e, not-above (ofBits binary64 b) (sign-bits binary64 b (omega arith) ∙ le-leb (top binary64) b t))
+
+zero-not-above : lt plusZero plusZero ≡ false
+unfolding lt
+zero-not-above = refl
+
+-- of a value above 0, whose bits are not 0
+pub finite-above : (x : Float) → T (fits binary64 x) → lt plusZero x ≡ true → ltb (toBits binary64 x) 9218868437227405312 ≡ (finite x && lt plusZero x)
+finite-above x f h =
+    let b = toBits binary64 x in
+    let e : ofBits binary64 b ≡ x = ofBits-toBits binary64 x f in
+    let some : ltb 0 b ≡ true = by (ltb 0 b) (λ t. t) (λ t. absurd (true≢false (sym h ∙ ap (lt plusZero) (sym e ∙ ap (ofBits binary64) (none b t) ∙ sym zero-bits) ∙ zero-not-above))) in
+    let k = above-bits b in
+    rw (some, e) at k
+  where
+    none : (b : ℕ) → ltb 0 b ≡ false → b ≡ 0
+    none b t = let h = ltb-false 0 b t in omega (arith, h)
 
 -- ---- without its sign
 pub abs-odd : (d : ℕ) (s : Bool) (q k l : ℕ) → abs (odd d s q k l) ≡ odd d false q k l

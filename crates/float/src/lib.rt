@@ -1,11 +1,11 @@
 // IEEE 754 numbers: the finite test, floats from bits and bytes, the floor at 0 and the hold in 0..2, and a key with
 // totalOrder's order. These are the Rust's `is_finite`, `from_le_bytes`, `max`, `clamp` and `total_cmp`.
 ghost use mathlib.Core.Path.{_≡_};
-ghost use mathlib.Core.Bool.{not};
+ghost use mathlib.Core.Bool.{not, _&&_};
 ghost use Prim.Native.Nat.{_+_, _≤_};
 ghost use lib.Dec.{T};
 ghost use lib.ListN.{length};
-ghost use lib.Ieee.{binary32, binary64, ofBits, toBits, isNan};
+ghost use lib.Ieee.{binary32, binary64, ofBits, toBits, isNan, lt};
 ghost use lib.Ieee.Scale.{finite};
 ghost use Rattle.le.specs.Le.{leAt};
 ghost use Rattle.float.specs.Values.{number, plusZero, two};
@@ -31,6 +31,14 @@ pub fn is_finite(x: f64) -> bool
 {
     let top: f64 = 1.0 / 0.0;
     (-top < x) & (x < top)
+}
+
+// Whether a value is finite and above a bound.
+pub fn is_over(bound: f64, x: f64) -> bool
+    ensures { λ r. ⌜ r ≡ (lt bound x && finite x) ⌝ }
+{
+    let top: f64 = 1.0 / 0.0;
+    (bound < x) & (x < top)
 }
 
 // A float that was read: a finite number, or an infinity or a NaN.

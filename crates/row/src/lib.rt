@@ -11,9 +11,10 @@ ghost use Rattle.le.specs.Le.{leAt};
 ghost use Rattle.root.specs.SquareRoot.{sqrtOf};
 ghost use Rattle.row.specs.Distance.{squaredL2, innerProduct, cosineBy, distanceOf};
 ghost use Rattle.row.specs.Read.{readOf, scaleTest, sumsTest};
-ghost use Rattle.row.specs.Answer.{measured as measuredOf, answer, viewOf, rowAnswer};
+ghost use Rattle.row.specs.Over.{isOver};
+ghost use Rattle.row.specs.Answer.{measured as measuredOf, answer, viewOf};
 ghost use Rattle.config.specs.Refusal.{refused as refusedAt};
-ghost use Rattle.codes.specs.Codes.{part, Small};
+ghost use Rattle.codes.specs.Codes.{part};
 ghost use Rattle.quantization.specs.View.{rowAt, rowTest, validRow};
 ghost use Rattle.quantization.specs.Encoder.{Levels};
 use codes::Sums;
@@ -22,7 +23,7 @@ use config::Refusal;
 use quantization::Row;
 
 // A row of a cache, where its scale is finite and above 0.
-enum ReadRow {
+pub enum ReadRow {
     Scaled(Row),
     Unscaled,
 }
@@ -84,18 +85,38 @@ pub fn approximate_distance(metric: Metric, row: Row, query: Row, root: f64, dot
     }
 }
 
+// Whether the distance is finite and above a bound. Under cosine it is not looked at, for want of the root.
+pub fn is_over(metric: Metric, row: Row, query: Row, dot: i32, bound: f64) -> bool
+    requires { ⌜ (natAbs (row .norm) ≤ 9007199254740992) × (natAbs (query .norm) ≤ 9007199254740992) ⌝ }
+    ensures { λ r. ⌜ r ≡ isOver metric bound (distanceOf metric (row .scale) (row .norm) (query .scale) (query .norm) dot) ⌝ }
+{
+    let d = dot as i64;
+    match metric {
+        Metric::SquaredL2 => float::is_over(
+            bound,
+            squared_l2(row.scale, row.norm, query.scale, query.norm, d),
+        ),
+        Metric::Cosine => false,
+        Metric::InnerProduct => float::is_over(bound, inner_product(row.scale, query.scale, d)),
+    }
+}
+
 // The row test but for the scale: codes within the levels, and a norm that is their sum of squares and not 0 under cosine.
-fn sums_hold(metric: Metric, row: Row, squares: u32, whole: bool) -> bool
+pub fn sums_hold(metric: Metric, row: Row, squares: u32, whole: bool) -> bool
     ensures { λ r. ⌜ r ≡ sumsTest metric (row .norm) squares whole ⌝ }
 {
     let norm = row.norm;
     whole & (norm == squares as i64) & !(metric.is_cosine() & (norm == 0))
 }
 
-fn scale_holds(scale: f64) -> bool
+// An infinity is told by its bits: of two comparisons as numbers LLVM would make five operations on the bits.
+pub fn scale_holds(scale: f64) -> bool
     ensures { λ r. ⌜ r ≡ scaleTest scale ⌝ }
 {
-    float::is_finite(scale) & (0.0 < scale)
+    if 0.0 < scale {
+        return f64::to_bits(scale) < 9218868437227405312;
+    }
+    false
 }
 
 // The row test, from what was summed of the codes.
@@ -106,7 +127,7 @@ pub fn valid(levels: u32, metric: Metric, row: Row, squares: u32, whole: bool) -
 }
 
 // Scale and norm at a place of a cache. The scale is tested by its bits, which is quicker, and only then read as a number.
-fn read_row(cache: &[u8], at: usize) -> ReadRow
+pub fn read_row(cache: &[u8], at: usize) -> ReadRow
     requires { ⌜ at + 16 ≤ length (now cache) ⌝ }
     ensures { λ r. ⌜ r ≡ readOf (ofBits binary64 (leAt 8 (now (cache .entry)) at)) (toZ w64 (leAt 8 (now (cache .entry)) (at + 8))) ⌝ }
 {
@@ -134,6 +155,22 @@ pub fn holds(levels: u32, metric: Metric, cache: &[u8], at: usize, n: usize) -> 
     }
 }
 
+// The same of a resident row, its codes from at on.
+pub fn holds_resident(
+    levels: u32,
+    metric: Metric,
+    codes: &[i8],
+    at: usize,
+    row: Row,
+    n: usize,
+) -> bool
+    requires { ⌜ (at + n ≤ length (now codes)) × (n ≤ 4096) × Levels levels ⌝ }
+    ensures { λ r. ⌜ r ≡ validRow levels metric (viewOf (row .scale) (row .norm) (part n (now (codes .entry)) at)) ⌝ }
+{
+    let t = codes::row_check_resident(levels as u8, codes, at, n);
+    valid(levels, metric, row, t.squares, t.whole)
+}
+
 // ---- What a row yields.
 fn refused(number: u32, place: u64) -> RowAnswer
     ensures { λ r. ⌜ r ≡ RowAnswer.Refused (refusedAt number place) ⌝ }
@@ -154,7 +191,7 @@ fn measured(x: f64, place: u64) -> RowAnswer
 }
 
 // A row that is not eligible: its distance is not looked at.
-fn passed_over(valid: bool, place: u64) -> RowAnswer
+pub fn passed_over(valid: bool, place: u64) -> RowAnswer
     ensures { λ r. ⌜ r ≡ answer valid false place nan ⌝ }
 {
     if valid {
@@ -194,58 +231,4 @@ pub fn summed_row(
         return scaled_row(metric, row, sums, query, root, place);
     }
     refused(21, place)
-}
-
-// A row of a cache: scale, norm and codes from at on. It does not call `holds`, since a call that is lent the cache costs each row a
-// nanosecond more.
-pub fn cached_row(
-    levels: u32,
-    metric: Metric,
-    cache: &[u8],
-    at: usize,
-    q: &[i16],
-    query: Row,
-    root: f64,
-    eligible: bool,
-    place: u64,
-) -> RowAnswer
-    requires { ⌜ (at + 16 + length (now q) ≤ length (now cache)) × (length (now q) ≤ 4096) × Levels levels ⌝ }
-    requires { ⌜ (natAbs (query .norm) ≤ 9007199254740992) × (root ≡ sqrtOf (ofInt binary64 (query .norm))) × Small (now q) ⌝ }
-    ensures { λ r. ⌜ r ≡ rowAnswer levels metric eligible place (rowAt (length (now (q .entry))) (now (cache .entry)) at) (viewOf (query .scale) (query .norm) (now (q .entry))) ⌝ }
-{
-    let codes = at + 16;
-    if let ReadRow::Scaled(row) = read_row(cache, at) {
-        if eligible {
-            let sums = codes::row_sums(levels as u8, cache, codes, q);
-            return scaled_row(metric, row, sums, query, root, place);
-        }
-        let t = codes::row_check(levels as u8, cache, codes, q.len());
-        return passed_over(sums_hold(metric, row, t.squares, t.whole), place);
-    }
-    refused(21, place)
-}
-
-// A resident row: its codes from at on, and its scale and norm.
-pub fn resident_row(
-    levels: u32,
-    metric: Metric,
-    codes: &[i8],
-    at: usize,
-    row: Row,
-    q: &[i16],
-    query: Row,
-    root: f64,
-    eligible: bool,
-    place: u64,
-) -> RowAnswer
-    requires { ⌜ (at + length (now q) ≤ length (now codes)) × (length (now q) ≤ 4096) × Levels levels ⌝ }
-    requires { ⌜ (natAbs (query .norm) ≤ 9007199254740992) × (root ≡ sqrtOf (ofInt binary64 (query .norm))) × Small (now q) ⌝ }
-    ensures { λ r. ⌜ r ≡ rowAnswer levels metric eligible place (viewOf (row .scale) (row .norm) (part (length (now (q .entry))) (now (codes .entry)) at)) (viewOf (query .scale) (query .norm) (now (q .entry))) ⌝ }
-{
-    if eligible {
-        let sums = codes::row_sums_resident(levels as u8, codes, at, q);
-        return summed_row(levels, metric, row, sums, query, root, place);
-    }
-    let t = codes::row_check_resident(levels as u8, codes, at, q.len());
-    passed_over(valid(levels, metric, row, t.squares, t.whole), place)
 }

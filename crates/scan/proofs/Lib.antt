@@ -1,2 +1,3 @@
 pub mod Far
 pub mod Scan
+pub mod Going

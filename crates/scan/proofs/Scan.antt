@@ -1,15 +1,14 @@
 -- A scan over rising rows: what one row adds, whatever the rows are seen by.
-use mathlib.Core.Path.{_≡_, refl, sym, ap, _∙_}
+use mathlib.Core.Path.{_≡_, refl, sym, ap, _∙_, subst}
 use mathlib.Core.Logic.{_⊎_, inl, inr, ⊎-elim}
-use mathlib.Core.Bool.{Bool, true, false, not, false≢true}
+use mathlib.Core.Bool.{Bool, true, false, not, cond, false≢true}
 use mathlib.Core.List.{List, [], _∷_, map}
-use Prim.Native.Nat.{ℕ, _+_, _*_, _^_, _≤_, _<_}
-use native.Mathlib.Nat.{suc-mul, le-trans}
+use Prim.Native.Nat.{ℕ, zero, suc, _+_, _-_, _*_, _^_, _≤_, _<_}
+use native.Mathlib.Nat.{suc-mul, mul-le-mul, le-trans}
 use native.Mathlib.Numerals.{add-one}
 use native.Mathlib.Omega.{arith}
 use borrow.Author.Tests.{eq-eqb}
 use lib.Dec.{T, leb}
-use lib.IntN.{ℤ, pos}
 use lib.Ieee.{Float, nan, inf, fin, binary64, toBits, isNan}
 use lib.Ieee.Scale.{finite}
 use lib.ListN.{length, getD, length-map}
@@ -22,7 +21,7 @@ use Rattle.rank.specs.Heap.{HeapFrom}
 use Rattle.rank.specs.Limit.{byKey}
 use Rattle.rank.specs.Rows.{passing}
 use Rattle.rank.specs.Pairs.{pack, pairs}
-use Rattle.rank.proofs.Rows.{passing-none, passing-pass}
+use Rattle.rank.proofs.Rows.{passing-none, passing-pass, count-more, count-most}
 use Rattle.rank.proofs.Pairs.{packed, pack-key, length-pairs, take-pairs, map-pairs, least-pack}
 use Rattle.rank.proofs.Bounded.{Holds, nothing}
 use Rattle.rank.proofs.Two.{passed2}
@@ -32,10 +31,9 @@ use Rattle.config.specs.Refusal.{none}
 use Rattle.config.specs.declared.Refusal.{Refusal}
 use Rattle.config.specs.declared.Metric.{Metric}
 use Rattle.config.proofs.Refusals.{is-done, is-other}
-use Rattle.codes.specs.Codes.{part}
-use Rattle.quantization.specs.View.{View, validRow, rowAt}
+use Rattle.quantization.specs.View.{View, validRow}
 use Rattle.row.specs.Distance.{approximate}
-use Rattle.row.specs.Answer.{measured, answer, rowAnswer, refusalOf, viewOf}
+use Rattle.row.specs.Answer.{measured, answer, rowAnswer, refusalOf}
 use Rattle.row.specs.declared.RowAnswer.{RowAnswer}
 use Rattle.row.specs.declared.RowAnswer.the-variants.{Distance, PassedOver, Refused}
 use Rattle.row.proofs.Yields.{Yields, yields, passes-over, refuses}
@@ -45,17 +43,22 @@ use Rattle.format.proofs.First.{Reached, reached-start, reached-turn}
 use Rattle.format.proofs.Refusals.{passes, each-none, refusal-stop, refusal-end}
 use Rattle.entries.specs.Plan.{rowsOk}
 use Rattle.entries.proofs.Entries.{ids-rise}
-use Rattle.quantized_cache.specs.Open.{rowStart, cachedAt}
+use Rattle.quantized_cache.specs.Open.{RoomFor, rowStart}
 use Rattle.quantized_cache.proofs.Opens.{Lies}
-use Rattle.resident.specs.Build.{residentAt}
 use Rattle.cache_format.specs.Cache.{rowLength}
 use Rattle.le.proofs.Joined.{part-ends}
-use Rattle.search_spec.specs.Lists.{approximateAt}
+use Rattle.search_spec.specs.Lent.{given, everyone, wants}
+use Rattle.search_spec.specs.Lists.{isEligible, approximateAt}
+use Rattle.eligible.specs.Walk.{CursorAt}
+use Rattle.eligible.proofs.Walk.{count-next}
+use mir.Val.{boolByte}
 use Rattle.search_spec.specs.Scan.{rowRefusal, rowsRefusal}
 use Rattle.scan.specs.Bar.{Bar, Keeps}
-use Rattle.scan.specs.Far.{Over}
+use Rattle.scan.specs.Far.{Over, Entered}
+use Rattle.scan.specs.Ahead.{NextIs}
 use Rattle.scan.specs.Scan.{nearKey, nearest, ScanIs}
 use Rattle.scan.specs.declared.Held.{Held}
+use Rattle.scan.specs.declared.Next.{Next}
 
 pub none-at : (ks : List ℕ) → length ks ≤ 0 → 0 ≡ getD ks 0 0
 none-at [] h = refl
@@ -228,7 +231,98 @@ module _ {levels : ℕ} {m : List ℕ} {eligible : ℕ → Bool} {view : ℕ →
             ∙ sym (map-pairs near (least (byKey near) limit P)) ∙ ap (λ c. pairs (map near c) c) (nearest-is levels m eligible view query ok z limit);
       }
 
+-- ---- several rows at once
+
+-- all of them turned away
+pub skips-to : {levels : ℕ} {m : List ℕ} {eligible : ℕ → Bool} {view : ℕ → View} {query : View} {limit row : ℕ} {ks rs : List ℕ} {n top : ℕ}
+    → Scanning levels m eligible view query limit row ks rs n top → (k : ℕ) → row + k ≤ rowsOf m
+    → ((i : ℕ) → row ≤ i → i < row + k → Over top (rowYields levels m eligible view query i)) → Scanning levels m eligible view query limit (row + k) ks rs n top
+skips-to {levels} {m} {eligible} {view} {query} {limit} {row} {ks} {rs} {n} {top} S k h o = go k h o
+  where
+    At : ℕ → Type 0
+    At r = Scanning levels m eligible view query limit r ks rs n top
+
+    go : (k : ℕ) → row + k ≤ rowsOf m → ((i : ℕ) → row ≤ i → i < row + k → Over top (rowYields levels m eligible view query i)) → At (row + k)
+    go zero h o = subst At {x = row} {y = row + zero} (omega arith) S
+    go (suc k) h o =
+        let s : At (row + k) = go k (omega arith) (λ i l j. o i l (omega arith)) in
+        subst At {x = row + k + 1} {y = row + suc k} (omega arith) (skips s (omega arith) (inr (o (row + k) (omega arith) (omega arith))))
+
+count-to : (ok : ℕ → Bool) (row k : ℕ) {total : ℕ} → total ≡ length (passing ok row) → ((i : ℕ) → row ≤ i → i < row + k → ok i ≡ true) → total + k ≡ length (passing ok (row + k))
+count-to ok row zero {total} t o = let e : row + zero ≡ row = omega arith in rw e (omega (arith, t))
+count-to ok row (suc k) {total} t o =
+    let e : row + suc k ≡ row + k + 1 = omega arith in
+    let i = count-to ok row k t (λ i l j. o i l (omega arith)) in
+    rw e (omega (arith, i, count-more ok (row + k) (o (row + k) (omega arith) (omega arith))))
+
+-- what has been gone over with the row that is next: the rows before it are turned away, and of it something is said
+pub record Went (levels : ℕ) (m : List ℕ) (eligible : ℕ → Bool) (view : ℕ → View) (query : View) (e : Bool) (row top : ℕ) (r : Next) : Type 0 where
+  pub from : row ≤ r .row
+  pub low : r .row < rowsOf m
+  pub over : (i : ℕ) → row ≤ i → i < r .row → Over top (rowYields levels m eligible view query i)
+  pub said : Entered top (rowYields levels m eligible view query (r .row)) (r .answer)
+  pub alike : (i : ℕ) → row ≤ i → i ≤ r .row → e ≡ eligible i
+  pub wanted : row < r .row → e ≡ true
+
+-- up to where the rows are eligible alike
+pub reach-holds : (all : Bool) (row rows to : ℕ) → to ≡ cond all rows (row + 1) → row < rows → (row < to) × (to ≤ rows)
+reach-holds true row rows to e h = (omega (arith, e), omega (arith, e))
+reach-holds false row rows to e h = (omega (arith, e), omega (arith, e))
+
+pub eligible-alike : (all : Bool) (s m : List ℕ) (row rows to i : ℕ) {e : Bool} → to ≡ cond all rows (row + 1) → e ≡ isEligible (given all s) everyone m row
+    → row ≤ i → i < to → e ≡ isEligible (given all s) everyone m i
+unfolding isEligible wants
+eligible-alike true s m row rows to i t e l h = e
+eligible-alike false s m row rows to i t e l h = let q : i ≡ row = omega (arith, t) in rw q e
+
+pub went : (levels : ℕ) (m : List ℕ) (eligible : ℕ → Bool) (view : ℕ → ℕ → ℕ → View) (query : View) {metric : Metric} {n k row to top : ℕ} {e : Bool} {r : Next}
+    → NextIs levels metric (view k n) query e row to top r → metric ≡ metricAt m → n ≡ dimensionsOf m → k ≡ rowsOf m → to ≤ rowsOf m
+    → ((i : ℕ) → row ≤ i → i < to → e ≡ eligible i) → Went levels m eligible (view (rowsOf m) (dimensionsOf m)) query e row top r
+unfolding rowYields
+went levels m eligible view query {row = row} {e = e} {r = r} N t q p h a =
+    let A : (i : ℕ) → row ≤ i → i ≤ r .row → e ≡ eligible i = λ i l j. a i l (omega (arith, N .until)) in
+    record {
+      from = N .from;
+      low = omega (arith, N .until, h);
+      over = λ i l j. rw (t, q, p, A i l (omega arith)) at (N .over i l j);
+      said = rw (t, q, p, A (r .row) (N .from) (omega arith)) at (N .said);
+      alike = A;
+      wanted = N .wanted;
+    }
+
+module _ {levels : ℕ} {m : List ℕ} {eligible : ℕ → Bool} {view : ℕ → View} {query : View} {e : Bool} {row top : ℕ} {r : Next} (W : Went levels m eligible view query e row top r) where
+  pub gone : {limit : ℕ} {ks rs : List ℕ} {n : ℕ} → Scanning levels m eligible view query limit row ks rs n top → Scanning levels m eligible view query limit (r .row) ks rs n top
+  gone {limit} {ks} {rs} {n} S =
+      let k = r .row - row in
+      let q : row + k ≡ r .row = omega (arith, W .from) in
+      subst (λ i. Scanning levels m eligible view query limit i ks rs n top) q
+      (skips-to S k (omega (arith, W .from, W .low)) (λ i l h. W .over i l (omega (arith, W .from))))
+
+  pub count-went : {total : ℕ} → total ≡ length (passing eligible row) → total + (r .row - row + boolByte e) ≡ length (passing eligible (r .row + 1))
+  count-went {total} t =
+      let k = r .row - row in
+      let q : row + k ≡ r .row = omega (arith, W .from) in
+      let c : total + k ≡ length (passing eligible (r .row)) =
+      rw q at (count-to eligible row k t (λ i l h. let j : i < r .row = omega (arith, W .from) in sym (W .alike i l (omega arith)) ∙ W .wanted (omega arith))) in
+      let d = count-next eligible (r .row) c (W .alike (r .row) (W .from) (omega arith)) in
+      omega (arith, d)
+
+  pub low-went : {total : ℕ} → total ≡ length (passing eligible row) → total + (r .row - row + boolByte e) ≤ rowsOf m
+  low-went t = omega (arith, count-went t, count-most eligible (r .row + 1), W .low)
+
+  pub cursor-went : {s : List ℕ} {cursor : ℕ} → CursorAt m s cursor (row + 1) → CursorAt m s cursor (r .row + 1)
+  cursor-went C = record { fits = C .fits; below = λ i j h k l. C .below i j h (omega (arith, W .from)) l }
+
 -- ---- where rows lie
+
+pub room-less : (rows row n : ℕ) {size : ℕ} → RoomFor size rows n → RoomFor size (rows - row) n
+room-less rows row n h =
+    let less : rows - row ≤ rows = omega arith in
+    let same : rowLength n ≤ rowLength n = omega arith in
+    omega (arith, mul-le-mul less same, h)
+
+pub start-less : (size rows row n : ℕ) → rowStart size (rows - row) n 0 ≡ rowStart size rows n row
+start-less size rows row n = let e : rows - row - 0 ≡ rows - row = omega arith in rw e
 
 pub start-next : {size rows n row at stride : ℕ} → Lies size rows n row → at ≡ rowStart size rows n row → stride ≡ rowLength n
     → at + stride ≡ rowStart size rows n (row + 1)
@@ -237,20 +331,8 @@ start-next L p q = rw (p, q) (L .next)
 pub codes-end : (rows row n : ℕ) {d at size : ℕ} → n ≡ d → row < rows → rows * d ≤ size → at ≡ row * n → at + n ≤ size
 codes-end rows row n e h k p = rw p (le-trans (part-ends row n rows h) (rw e k))
 
+pub codes-start : (row to n : ℕ) {size : ℕ} → row ≤ to → to * n ≤ size → row * n ≤ size
+codes-start row to n h k = let same : n ≤ n = omega arith in le-trans (mul-le-mul h same) k
+
 pub codes-next : (row n : ℕ) {at : ℕ} → at ≡ row * n → at + n ≡ (row + 1) * n
 codes-next row n p = rw (p, add-one row) (sym (suc-mul row n))
-
--- ---- a row, from what was read at its place
-
-pub cached-yields : (levels : ℕ) (m : List ℕ) (eligible : ℕ → Bool) (cache : List ℕ) (query : View) (row : ℕ) {metric : Metric} {at n k : ℕ} {e : Bool}
-    → metric ≡ metricAt m → e ≡ eligible row → n ≡ dimensionsOf m → k ≡ rowsOf m → at ≡ rowStart (length cache) k n row
-    → rowAnswer levels metric e row (rowAt n cache at) query ≡ rowYields levels m eligible (cachedAt (rowsOf m) (dimensionsOf m) cache) query row
-unfolding rowYields
-cached-yields levels m eligible cache query row t p q r s = rw (t, p, s, q, r)
-
-pub resident-yields : (levels : ℕ) (m : List ℕ) (eligible : ℕ → Bool) (codes : List ℤ) (scales : List Float) (norms : List ℤ) (query : View) (row : ℕ)
-    {metric : Metric} {at n : ℕ} {e : Bool} {x : Float} {z : ℤ}
-    → metric ≡ metricAt m → e ≡ eligible row → n ≡ dimensionsOf m → at ≡ row * n → x ≡ getD scales row nan → z ≡ getD norms row (pos 0)
-    → rowAnswer levels metric e row (viewOf x z (part n codes at)) query ≡ rowYields levels m eligible (residentAt (dimensionsOf m) codes scales norms) query row
-unfolding rowYields
-resident-yields levels m eligible codes scales norms query row i p q s t u = rw (i, p, s, q, t, u)

@@ -2,3 +2,4 @@
 pub mod Scan
 pub mod Bar
 pub mod Far
+pub mod Ahead

@@ -82,17 +82,12 @@ fn answer(metric: Metric, row: &[u8; 59], codes: &[i16; 43], query: Row) -> RowA
     requires { ⌜ (natAbs (query .norm) ≤ 9007199254740992) × Small (now codes) ⌝ }
 {
     let root = row::norm_root(query.norm);
-    row::cached_row(
-        quantization::BASE_LEVELS,
-        metric,
-        row,
-        0,
-        codes,
-        query,
-        root,
-        true,
-        0,
-    )
+    let sums = codes::row_sums(quantization::BASE_LEVELS as u8, row, 16, codes);
+    let r = Row {
+        scale: float::f64_value(le::u64_at(row, 0)),
+        norm: le::i64_at(row, 8),
+    };
+    row::summed_row(quantization::BASE_LEVELS, metric, r, sums, query, root, 0)
 }
 
 fn print_answer(r: RowAnswer) {

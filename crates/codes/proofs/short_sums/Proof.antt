@@ -12,6 +12,6 @@ short-sums-spec =
     (tie.spec
     (λ c κs. let z = c .before .before in (search needs, (z .pre .1, sums-start refl (simp length-map (omega (arith, z .pre .0))) (omega arith) refl refl refl)))
     (λ c. c .sums-ones .ensures)
-    (λ c κs. let z = c .before .before in (search needs, (z .pre .1, sums-start refl (simp length-map (omega (arith, z .pre .0))) (omega arith) refl refl refl)))
-    (λ c κs. let z = c .before .before .before in (search needs, (z .pre .1, c .sums-part .ensures)))
+    (λ c κs. search needs)
+    (λ c κs. let z = c .before .before .before in (search needs, (z .pre .1, c .sums-first .ensures)))
     (λ c. c .sums-ones2 .ensures))

@@ -11,6 +11,6 @@ short-sums-resident-spec =
     (tie.spec
     (λ c κs. let z = c .before in (search needs, (z .pre .1, sums-start refl (omega (arith, z .pre .0)) (omega arith) refl refl refl)))
     (λ c. c .sums-ones-resident .ensures)
-    (λ c κs. let z = c .before in (search needs, (z .pre .1, sums-start refl (omega (arith, z .pre .0)) (omega arith) refl refl refl)))
-    (λ c κs. let z = c .before .before in (search needs, (z .pre .1, c .sums-part-resident .ensures)))
+    (λ c κs. search needs)
+    (λ c κs. let z = c .before .before in (search needs, (z .pre .1, c .sums-first-resident .ensures)))
     (λ c. c .sums-ones-resident2 .ensures))

@@ -9,6 +9,12 @@ use Rattle.vectors_quantization.proofs.answer.Tie as tie
 pub answer-spec : {M : Type 1} → statement M
 answer-spec = tie.close (tie.spec
     (λ c κs. search needs)
-    (λ c κs. let b = c .before .before .before .before in
-    (search needs, (b .pre .0, c .before .before .norm-root .ensures ∙ ap (λ z. sqrtOf (ofInt binary64 z)) (held (b .args .query .norm) (b .pre .0)), b .pre .1)))
+    (λ c. search needs)
+    (λ c κs. search needs)
+    (λ c κs. search needs)
+    (λ c κs. search needs)
+    (λ c κs. search needs)
+    (λ c κs. let n = c .before .before .before .before .before .before .before .before in
+    let b = n .before .before in
+    (b .pre .0, n .norm-root .ensures ∙ ap (λ z. sqrtOf (ofInt binary64 z)) (held (b .args .query .norm) (b .pre .0))))
     (λ c. search needs))
