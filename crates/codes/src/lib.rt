@@ -4,8 +4,8 @@
 // From quantized_cache.rs, `dot_codes` and `validate_row`, and the search loop of quantization.rs.
 //
 // A row is summed in parts of 16 codes: loops of constant length, which LLVM unrolls and vectorises. An odd part of 16 comes first,
-// then the turns of several parts, whose sums LLVM adds in vectors, once a turn. A rest of 4 to 15 is summed as the row's last 16
-// codes, those already summed taken as 0; a rest of up to 3 goes one by one, a row of fewer than 16 by 8 codes and one by one. Each
+// then the turns of several parts, whose sums LLVM adds in vectors, once a turn. A rest of 7 to 15 is summed as the row's last 16
+// codes, those already summed taken as 0; a rest of up to 6 goes one by one, a row of fewer than 16 by 8 codes and one by one. Each
 // function adds to the sums so far, so that its contract speaks of the row up to a place; all of them are inlined.
 // The part that a short row begins with is widened by its bytes (`widened`). LLVM's own sign extension unpacks into whatever a register
 // holds, and where that is the distance of the row before, each row waits for the one before it.
@@ -371,7 +371,7 @@ pub fn row_sums(levels: u8, c: &[u8], at: usize, q: &[i16]) -> Sums
     if r == 0 {
         return s;
     }
-    if r < 4 {
+    if r < 7 {
         return sums_ones(levels, c, at, q, s, i);
     }
     sums_part(levels, c, at, q, s, i, n, 16)
@@ -657,7 +657,7 @@ pub fn row_sums_resident(levels: u8, c: &[i8], at: usize, q: &[i16]) -> Sums
     if r == 0 {
         return s;
     }
-    if r < 4 {
+    if r < 7 {
         return sums_ones_resident(levels, c, at, q, s, i);
     }
     sums_part_resident(levels, c, at, q, s, i, n, 16)
