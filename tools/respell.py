@@ -15,7 +15,7 @@ import sys
 
 HERE = os.path.dirname(os.path.realpath(__file__))
 TOKEN = re.compile(r"(?<![\w'′₀-₉-])[\w'′₀-₉]+(?:-[\w'′₀-₉]+)*(?![\w'′₀-₉-])")
-DECLARED = re.compile(r"^( *)((?:(?:abbrev|unfoldable|pub|record|data) )*)([\w'′₀-₉-]+)(?: \{[^{}]*\})* : ?")
+DECLARED = re.compile(r"^( *)((?:(?:abbrev|unfoldable|pub|record|data) )*)([\w'′₀-₉-]+)(?: \{[^{}]*\}| \([^()]*\))* : ?")
 STRING = re.compile(r'"[^"\n]*"')
 
 

@@ -1,5 +1,7 @@
 // The agreement count: at how many places the list and the list over all eligible records hold the same id. The list is in order, and so
 // these are its places before the least eligible record that it lacks: one pass over the rows finds them, with no further slice.
+#![tactic(auto)]
+
 ghost use Rattle.std.specs.Prelude.{◌≡◌, ◌≤◌, ◌<◌, leb, length};
 ghost use Rattle.rank.specs.Sort.{Ascending};
 ghost use Rattle.search_spec.specs.Lent.{given, everyone};
@@ -12,7 +14,7 @@ use format::Layout;
 use rerank::Measure;
 
 // A refusal, or at how many places the lists agree.
-#[derive(Drop)]
+#[derive(Clone, Copy)]
 pub struct Counted {
     pub refusal: Refusal,
     pub agreement: usize,

@@ -1,4 +1,6 @@
 // What a search leaves: the listed rows in the answer slices, the working slices cleared, the report.
+#![tactic(auto)]
+
 ghost use Rattle.std.specs.Prelude.{◌≡◌, true, ◌≤◌, ◌<◌, length};
 ghost use Rattle.le.specs.Le.{zeros};
 ghost use Rattle.rank.specs.Rows.{RowsBelow};
@@ -99,7 +101,7 @@ pub fn report_of(
 }
 
 // A refusal, or the report of a call and, of an agreement call, its count.
-#[derive(Drop)]
+#[derive(Clone, Copy)]
 pub struct Answered {
     pub refusal: Refusal,
     pub report: Report,

@@ -1,5 +1,7 @@
 // The entries for callers from C: each is another crate's, under that one's equation. It returns the refusal's number; the place and all else that is
 // answered go into the room that the caller lends, and a state crosses as bytes (crate `api_state`).
+#![tactic(auto)]
+
 ghost use Rattle.std.specs.Prelude.{◌≡◌, [], length};
 ghost use Rattle.manifest.specs.Check.{checked, scratch_left};
 ghost use Rattle.segment.specs.Check.{checked_library};

@@ -1,4 +1,6 @@
 // What crosses to C as numbers: info and report, and four distances of a metric that is given by its number.
+#![tactic(auto)]
+
 ghost use Rattle.std.specs.Prelude.{◌≡◌};
 ghost use Rattle.api_answers.specs.Numbers.{info_numbers, report_numbers, distance_four_of};
 

@@ -1,4 +1,6 @@
 // The states that opening and building return, and the head that a check returns, as the bytes that a caller from C keeps.
+#![tactic(auto)]
+
 ghost use Rattle.std.specs.Prelude.{◌≡◌, ◌+◌, ◌*◌, ◌≤◌, length};
 ghost use Rattle.le.specs.Le.{le_at, paste};
 ghost use Rattle.api_state.specs.Bytes.{words, head_numbers, state_bytes, config_in, head_at, head_bytes, head_in, bytes_of_cache, cache_in, resident_bytes, resident_in};

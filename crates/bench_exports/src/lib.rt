@@ -1,5 +1,7 @@
 // Inner functions for the benchmarks, callable from Rust: each is another crate's, under that one's contract. The entries stand in `exports`, apart
 // from them: LLVM inlines a function that has one caller in an archive.
+#![tactic(auto)]
+
 ghost use Rattle.std.specs.Prelude.{◌≡◌, true, cond, List, ◌++◌, Float, ℕ, ◌+◌, ◌-◌, ◌*◌, ◌≤◌, length, get_or, drop};
 ghost use Rattle.crc32.specs.Crc.{crc32 as checksum};
 ghost use Rattle.root.specs.SquareRoot.{sqrt_of};

@@ -1,4 +1,6 @@
 // How a cache is laid out: quantized_cache.rs's `identity` and `geometry`, the writing of its head, and what opening tests before the rows.
+#![tactic(auto)]
+
 ghost use Rattle.std.specs.Prelude.{◌≡◌, ◌+◌, ◌≤◌, ◌<◌, length, take, drop};
 ghost use Rattle.le.specs.Le.{paste};
 ghost use Rattle.format.specs.Same.{same_bytes};
@@ -18,7 +20,7 @@ const MAX_ROOT: usize = 1_048_576;
 const MAX_BUFFER_BYTES: usize = 16_777_216;
 
 // Bounds for a prepared cache and its read buffer: the Rust's `QuantizedCacheOptions`, with its defaults.
-#[derive(Drop)]
+#[derive(Clone, Copy)]
 pub struct Options {
     pub max_cache_bytes: usize,
     pub buffer_bytes: usize,

@@ -1,5 +1,7 @@
 // A call: the Rust's `search_selected` (generation/quantization.rs, generation/quantized_cache.rs) and its agreement count over lent slices,
 // of cached or resident rows, all ids or those handed in. Its tests stand in `front`, what follows them in `ranked`.
+#![tactic(auto)]
+
 ghost use Rattle.std.specs.Prelude.{◌≡◌};
 ghost use Rattle.search_spec.specs.Lent.{answers_of, work_of, given, call_of};
 ghost use Rattle.search_spec.specs.Tests.{front_number};

@@ -12,12 +12,14 @@
 // LLVM vectorises a sum only if one place uses it. So no turn may be implied by another one's not having run (`row_sums` has its odd
 // turn of 32 before those of 64), and a turn has one caller. The order of the structs' fields, and of the operations on them, matters
 // too: measure each change, with the levels a literal and not.
+#![tactic(auto)]
+
 ghost use Rattle.std.specs.Prelude.{◌≡◌, ◌+◌, ◌-◌, ◌*◌, ◌≤◌, ◌<◌, nat_abs, pos, ◌*ℤ◌, length, get_or, leb};
 ghost use Rattle.codes.specs.Codes.{codes, part, Small, RowSums, RowCheck};
 ghost use Rattle.codes.specs.Sums.{masked_at, Checked, Summed, CodeAdded, CodeChecked, SumsAdded, ChecksAdded};
 
 // Of a row, or a part of one: the dot product, the sum of the squared codes, whether every code is within the levels.
-#[derive(Drop)]
+#[derive(Clone, Copy)]
 pub struct Sums {
     pub dot: i32,
     pub squares: u32,
@@ -25,7 +27,7 @@ pub struct Sums {
 }
 
 // The same without the dot product.
-#[derive(Drop)]
+#[derive(Clone, Copy)]
 pub struct Check {
     pub squares: u32,
     pub whole: bool,

@@ -1,4 +1,6 @@
 // Bounds, metric, configuration and the vector test: config.rs, and `EmbeddingSpace::validate` of collection.rs.
+#![tactic(auto)]
+
 ghost use Rattle.std.specs.Prelude.{◌≡◌, ◌&&◌, ◌+◌, ◌*◌, ◌≤◌, leb, length};
 ghost use Rattle.config.specs.Limits.{max_results, max_candidates};
 ghost use Rattle.config.specs.Metric.{metric_of, byte_of, is_cosine};
@@ -43,13 +45,13 @@ pub fn limit_holds(k: usize, limit: usize) -> bool
 }
 
 // A refusal's number and place; number 0 is none.
-#[derive(Drop)]
+#[derive(Clone, Copy)]
 pub struct Refusal {
     pub number: u32,
     pub place: u64,
 }
 
-#[derive(Drop)]
+#[derive(Clone, Copy)]
 pub enum Metric {
     SquaredL2,
     Cosine,
@@ -57,7 +59,7 @@ pub enum Metric {
 }
 
 // What a metric byte says.
-#[derive(Drop)]
+#[derive(Clone, Copy)]
 pub enum MetricAnswer {
     Known(Metric),
     Refused(Refusal),
@@ -103,7 +105,7 @@ impl Metric {
     }
 }
 
-#[derive(Drop)]
+#[derive(Clone, Copy)]
 pub struct Config {
     pub dimensions: usize,
     pub m: usize,

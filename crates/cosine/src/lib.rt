@@ -1,5 +1,7 @@
 // A row that is too far under cosine to be a candidate, told by whole numbers alone, without a root: a limit from the worst key that is
 // kept, and two products for a row.
+#![tactic(auto)]
+
 ghost use Rattle.std.specs.Prelude.{◌≡◌, ◌≤◌, ◌<◌, pos};
 ghost use Rattle.std.specs.Float.{binary64};
 ghost use Rattle.std.specs.Float.Ieee.{of_int};

@@ -1,4 +1,6 @@
 // CRC-32: storage.rs's `Crc32`. A caller that sums much makes the tables once and lends them.
+#![tactic(auto)]
+
 ghost use Rattle.std.specs.Prelude.{◌≡◌, ◌+◌, ◌*◌, ◌%◌, ◌<◌, ◌≤◌};
 ghost use Rattle.crc32.specs.Crc.{steps, update as updated, finish as complement, crc32 as checksum, ends_in_crc};
 ghost use Rattle.crc32.specs.Tables.{entries, slot, slots, Filled};

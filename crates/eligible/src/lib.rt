@@ -1,5 +1,7 @@
 // The eligible rows: the ids handed in, sorted in a lent slice, merged with the rising ids of the manifest. They stand for the
 // `BTreeSet` of `search_ids` in the Rust's src/generation.rs.
+#![tactic(auto)]
+
 ghost use Rattle.std.specs.Prelude.{◌≡◌, true, ◌++◌, ◌≤◌, ◌<◌, leb, length, drop};
 ghost use Rattle.rank.specs.Sort.{sort, Ascending};
 ghost use Rattle.format.specs.Layout.{LaidOut};
@@ -11,7 +13,7 @@ ghost use Rattle.eligible.specs.Walk.{Behind, Stepped, CursorAt, Turned, sorted_
 use format::Layout;
 
 // Whether an id is among the sorted ids, or a row eligible; and the cursor for the next.
-#[derive(Drop)]
+#[derive(Clone, Copy)]
 pub struct Found {
     pub eligible: bool,
     pub cursor: usize,

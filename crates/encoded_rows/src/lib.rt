@@ -1,4 +1,6 @@
 // The rows of a library: the lowest bad record, and each record's row, written into its own part of a lent cache.
+#![tactic(auto)]
+
 ghost use Rattle.std.specs.Prelude.{◌≡◌, true, ◌+◌, ◌*◌, ◌≤◌, ◌<◌, length};
 ghost use Rattle.le.specs.Le.{paste};
 ghost use Rattle.format.specs.Fields.{metric_at, rows_of, dimensions_of};

@@ -1,4 +1,6 @@
 // The rows' entries in the manifest: their reading and rules, and format.rs's `read_manifest` up to the tiling.
+#![tactic(auto)]
+
 ghost use Rattle.std.specs.Prelude.{◌≡◌, ◌+◌, ◌*◌, ◌≤◌, ◌<◌, length};
 ghost use Rattle.format.specs.Layout.{LaidOut};
 ghost use Rattle.entries.specs.Entry.{entry_at};
@@ -6,7 +8,7 @@ ghost use Rattle.entries.specs.Plan.{rises as rising, entry_ok, bad_entry, bad_e
 
 use format::Layout;
 
-#[derive(Drop)]
+#[derive(Clone, Copy)]
 pub struct Entry {
     pub id: u64,
     pub segment: u32,

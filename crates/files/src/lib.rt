@@ -1,4 +1,6 @@
 // The six files of the list program, read from a folder, and what the list program prints of them.
+#![tactic(auto)]
+
 ghost use Rattle.std.specs.Prelude.{◌≡◌, ◌≤◌, length};
 ghost use Rattle.io.specs.Counts.{IsPrefixLen};
 
@@ -12,7 +14,7 @@ const BUFFER_BYTES: usize = listing_input::MAX_FILE_BYTES + 1;
 const FOLDER_BYTES: usize = 4086;
 
 // What came of reading a file: whether it is there, and how many of its bytes stand in the buffer; or that reading it failed.
-#[derive(Drop)]
+#[derive(Clone, Copy)]
 struct File {
     failed: bool,
     there: bool,

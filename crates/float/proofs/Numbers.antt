@@ -152,7 +152,7 @@ pub record MaxNum (x y r : Float) : Type 0 where
 -- so `max_zero` is that maximum of x and +0, but that at -0 the maximum may be -0
 pub max_zero_is : (f : Format) (x r : Float) → T (fits f x) → (x ≡ minus_zero → ⊥) → MaxNum x plus_zero r → r ≡ max_zero x
 unfolding max_zero lt
-max_zero_is f nan r t n h = h.nan-first (unfold is_nan in refl)
+max_zero_is f nan r t n h = h.nan_first (unfold is_nan in refl)
 max_zero_is f (inf true) r t n h = h.below refl
 max_zero_is f (inf false) r t n h = h.above refl
 max_zero_is f (fin true zero e) r t n h = absurd (n (zero_is f true e t))

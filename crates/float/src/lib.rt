@@ -1,5 +1,7 @@
 // IEEE 754 numbers: the finite test, floats from bits and bytes, the floor at 0 and the hold in 0..2, and a key with
 // totalOrder's order. These are the Rust's `is_finite`, `from_le_bytes`, `max`, `clamp` and `total_cmp`.
+#![tactic(auto)]
+
 ghost use Rattle.std.specs.Prelude.{◌≡◌, not, ◌&&◌, ◌+◌, ◌≤◌, T, length};
 ghost use Rattle.std.specs.Float.{binary32, binary64};
 ghost use Rattle.std.specs.Float.Ieee.{of_bits, to_bits, is_nan, lt};
@@ -39,7 +41,7 @@ pub fn is_over(bound: f64, x: f64) -> bool
 }
 
 // A float that was read: a finite number, or an infinity or a NaN.
-#[derive(Drop)]
+#[derive(Clone, Copy)]
 pub enum Number {
     Finite(f64),
     NonFinite,

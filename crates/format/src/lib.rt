@@ -1,4 +1,6 @@
 // The manifest's head and segments: format.rs's `read_manifest` up to the rows' entries.
+#![tactic(auto)]
+
 ghost use Rattle.std.specs.Prelude.{◌≡◌, cond, not, ◌++◌, ◌+◌, ◌-◌, ◌≤◌, ◌<◌, eqb, length, take, drop, replicate};
 ghost use Rattle.le.specs.Le.{le_at};
 ghost use Rattle.utf8.specs.Grammar.{span as inside};
@@ -14,7 +16,7 @@ use config::{Config, Metric, MetricAnswer};
 const MAGIC: u64 = 0x3130_4e45_4743_4556;
 
 // The manifest's length and every field before its segment table: what a search compares.
-#[derive(Drop)]
+#[derive(Clone, Copy)]
 pub struct Head {
     pub length: usize,
     pub generation: u64,
@@ -27,7 +29,7 @@ pub struct Head {
 }
 
 // Where the parts of a manifest lie.
-#[derive(Drop)]
+#[derive(Clone, Copy)]
 pub struct Layout {
     pub dimensions: usize,
     pub segments: usize,

@@ -1,4 +1,6 @@
 // What a search does before it looks at a row: generation.rs's tests of a call, the entries, and the query as it is kept.
+#![tactic(auto)]
+
 ghost use Rattle.std.specs.Prelude.{◌≡◌, true, ◌≤◌, min, length};
 ghost use Rattle.config.specs.Refusal.{none};
 ghost use Rattle.config.specs.Vector.{finites};
@@ -135,7 +137,7 @@ pub fn entries(m: &[u8], layout: Layout) -> Refusal
 // ---- The query.
 
 // What is kept of a query beside its codes and its coordinates.
-#[derive(Drop)]
+#[derive(Clone, Copy)]
 pub struct Query {
     pub row: Row,
     pub root: f64,

@@ -1,4 +1,6 @@
 // The rows that a call looks at, kept one way or the other: cached or resident, the lengths of their slices, and the candidates among them.
+#![tactic(auto)]
+
 ghost use Rattle.std.specs.Prelude.{◌≡◌, true, length, leb};
 ghost use Rattle.rank.specs.Sort.{Ascending};
 ghost use Rattle.quantization.specs.Encoder.{Levels};
@@ -16,7 +18,7 @@ use format::{Head, Layout};
 use shortlist::Shortlisted;
 
 // What opening or building returned: whether the rows are resident, the head, and the lengths of the cache or of the resident slices.
-#[derive(Drop)]
+#[derive(Clone, Copy)]
 pub struct Kept {
     pub resident: bool,
     pub head: Head,

@@ -3,6 +3,7 @@
 // A file that is missing, cannot be opened or is a folder counts as missing, which `bad input` or `too long` tells. Where reading a file
 // fails, nothing is printed but a message on standard error. The list is handed over in one piece, once all of it is known; where writing
 // fails, a message on standard error says that what was written is not all of it.
+#![tactic(auto)]
 
 fn print(folder: &[u8]) {
     let mut out = listing_text::buffer();

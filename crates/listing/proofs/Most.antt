@@ -30,4 +30,4 @@ rows-most m e h =
     let k = some-segment (rows_of m) (segments_of m) (both {a = early} c).1 in
     by (eqb (rows_of m) 0)
     (λ z. omega (arith, eqb-true (rows_of m) 0 z))
-    (λ z. let s = k (eqb-false (rows_of m) 0 z) in omega (arith, s, b.end, b.model-low))
+    (λ z. let s = k (eqb-false (rows_of m) 0 z) in omega (arith, s, b.end, b.model_low))

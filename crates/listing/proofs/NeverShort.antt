@@ -207,4 +207,4 @@ unfolding list_refusal
 never_short f =
     let shown : input_of f ≡ Whole → Shown (list_refusal f) =
     λ e. let l = (whole f e).manifest.short in then_shown (admission f).refusal (found f).refusal (admission-shown f l) (found-shown f l) in
-    record { no_11 = λ e. (shown e).no-11; no_20 = λ e. (shown e).no-20 }
+    record { no_11 = λ e. (shown e).no_11; no_20 = λ e. (shown e).no_20 }

@@ -1,4 +1,6 @@
 // The list program's files: what is wrong with them before anything in them is looked at, and the parts of QUERY and PLACE.
+#![tactic(auto)]
+
 ghost use Rattle.std.specs.Prelude.{◌≡◌, List, ℕ, ◌/◌, ◌≤◌, length};
 ghost use Rattle.std.specs.Float.{binary32};
 ghost use Rattle.std.specs.Float.Ieee.{of_bits};
@@ -9,7 +11,7 @@ ghost use Rattle.listing_input.specs.Parts.{query_of, newline_at};
 pub const MAX_FILE_BYTES: usize = 65536;
 
 // Whether each of the six files is there.
-#[derive(Drop)]
+#[derive(Clone, Copy)]
 pub struct There {
     pub manifest: bool,
     pub segments: bool,
@@ -20,7 +22,7 @@ pub struct There {
 }
 
 // What is printed alone, or that the files are whole.
-#[derive(Drop)]
+#[derive(Clone, Copy)]
 pub enum Input {
     TooLong,
     BadInput,

@@ -1,4 +1,6 @@
 // What a manifest is: format.rs's `read_manifest`, whole. The rows are ordered by segment and offset in a lent scratch.
+#![tactic(auto)]
+
 ghost use Rattle.std.specs.Prelude.{◌≡◌, true, ◌++◌, map, ◌+◌, ◌≤◌, ◌<◌, length, drop};
 ghost use Rattle.rank.specs.Rows.{passing};
 ghost use Rattle.format.specs.Fields.{rows_of};
@@ -13,7 +15,7 @@ use config::Refusal;
 use format::{Head, Layout};
 
 // A refusal, or the head of an accepted manifest.
-#[derive(Drop)]
+#[derive(Clone, Copy)]
 pub struct Checked {
     pub refusal: Refusal,
     pub head: Head,

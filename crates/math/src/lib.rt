@@ -1,4 +1,6 @@
 // Original distances: math.rs, and `original_distance` of generation.rs.
+#![tactic(auto)]
+
 ghost use Rattle.std.specs.Prelude.{◌≡◌, ◌+◌, ◌<◌, ◌≤◌, true, ◌++◌, length, drop, if◌then◌else◌, slice_index_or};
 ghost use Rattle.std.specs.Float.{nan, binary64};
 ghost use Rattle.std.specs.Float.Ieee.{sub};
@@ -277,7 +279,7 @@ fn valid_five(metric: Metric, query: &[f32], a: &[f32], b: &[f32], c: &[f32], d:
 }
 
 // Four distances, or a refusal and four +0.
-#[derive(Drop)]
+#[derive(Clone, Copy)]
 pub struct Four {
     pub refusal: Refusal,
     pub distances: [f64; 4],

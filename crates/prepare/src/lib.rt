@@ -1,4 +1,6 @@
 // Preparing a cache: quantized_cache.rs's `prepare`, over lent slices. Every test goes before the first store.
+#![tactic(auto)]
+
 ghost use Rattle.std.specs.Prelude.{◌≡◌, true, ◌++◌, ◌+◌, ◌*◌, ◌≤◌, length, take, drop};
 ghost use Rattle.quantization.specs.Encoder.{base_levels, midpoints};
 ghost use Rattle.format.specs.Fields.{rows_of, dimensions_of};
@@ -20,7 +22,7 @@ use config::Refusal;
 use format::Layout;
 
 // What was prepared: the Rust's `QuantizedCacheInfo`.
-#[derive(Drop)]
+#[derive(Clone, Copy)]
 pub struct Info {
     pub generation: u64,
     pub sequence: u64,
@@ -29,7 +31,7 @@ pub struct Info {
     pub parameter_bytes: usize,
 }
 
-#[derive(Drop)]
+#[derive(Clone, Copy)]
 pub struct Prepared {
     pub refusal: Refusal,
     pub info: Info,

@@ -1,5 +1,7 @@
 // The row encoder: quantization.rs's `encode`. From a record's bytes or from f32s to a scale, a norm and codes, which are stored as
 // a row of a cache, as i8s, or as i16s.
+#![tactic(auto)]
+
 ghost use Rattle.std.specs.Prelude.{◌≡◌, true, false, not, map, ◌++◌, ◌+◌, ◌-◌, ◌*◌, ◌≤◌, ◌<◌, ◌^◌, T, leb, length, drop};
 ghost use Rattle.std.specs.Float.{binary32, binary64};
 ghost use Rattle.std.specs.Float.Ieee.{of_bits, to_bits, div, is_nan};
@@ -15,7 +17,7 @@ ghost use Rattle.quantization.specs.Encoder.{Levels, scale_by, not_above, signed
 ghost use Rattle.quantization.specs.Walk.{held as held_of, Walked};
 
 // A row's scale and norm, as one value.
-#[derive(Drop)]
+#[derive(Clone, Copy)]
 pub struct Row {
     pub scale: f64,
     pub norm: i64,

@@ -1,4 +1,6 @@
 // A cache of quantized rows: quantized_cache.rs's sizing and `CachedQuantizedSnapshot::open`, over lent slices.
+#![tactic(auto)]
+
 ghost use Rattle.std.specs.Prelude.{◌≡◌, ◌≤◌, length};
 ghost use Rattle.quantization.specs.Encoder.{Levels, base_levels};
 ghost use Rattle.format.specs.Fields.{dimensions_of, rows_of, metric_at};
@@ -14,21 +16,21 @@ use config::{Metric, Refusal};
 use format::Head;
 
 // A refusal, or the size of a library's cache.
-#[derive(Drop)]
+#[derive(Clone, Copy)]
 pub struct Sized {
     pub refusal: Refusal,
     pub size: usize,
 }
 
 // What opening hands to a search: the manifest's head and the cache's length.
-#[derive(Drop)]
+#[derive(Clone, Copy)]
 pub struct CacheState {
     pub head: Head,
     pub cache: usize,
 }
 
 // A refusal, or the state of an opened cache.
-#[derive(Drop)]
+#[derive(Clone, Copy)]
 pub struct Opened {
     pub refusal: Refusal,
     pub state: CacheState,

@@ -1,4 +1,6 @@
 // A call past all tests of what is lent: the candidates, and of them the list, written into the answer slices, with its report.
+#![tactic(auto)]
+
 ghost use Rattle.std.specs.Prelude.{◌≡◌, true, [], ◌≤◌, min, leb};
 ghost use Rattle.rank.specs.Sort.{Ascending};
 ghost use Rattle.format.specs.Layout.{LaidOut};

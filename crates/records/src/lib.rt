@@ -1,11 +1,13 @@
 // Kept rows as a slice of records, after a search. A crate of its own because `records` is proved by hand: no caller of it in Rattle is covered.
+#![tactic(auto)]
+
 ghost use Rattle.std.specs.Prelude.{◌≡◌, ◌<◌, length};
 ghost use Rattle.records.specs.Records.{records_room_ok, place_record, plan_of, hand_out_refusal, handed_out};
 
 use config::Refusal;
 
 #[repr(C)]
-#[derive(Drop)]
+#[derive(Clone, Copy)]
 pub struct Record {
     pub distance: f64,
     pub id: u64,
@@ -13,7 +15,7 @@ pub struct Record {
 }
 
 // How many records are to be handed out, and the refusal.
-#[derive(Drop)]
+#[derive(Clone, Copy)]
 struct Plan {
     count: usize,
     refusal: Refusal,

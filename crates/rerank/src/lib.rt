@@ -1,5 +1,7 @@
 // The candidates by original distance: generation.rs's `rerank`. Their records are tested and measured by rising row, four a call where
 // four in a row hold, and then ordered.
+#![tactic(auto)]
+
 ghost use Rattle.std.specs.Prelude.{◌≡◌, true, List, ℕ, ◌+◌, ◌≤◌, ◌<◌, leb, length};
 ghost use Rattle.config.specs.Refusal.{refused as refused_at};
 ghost use Rattle.rank.specs.Sort.{sort};
@@ -11,14 +13,14 @@ use config::{Metric, Refusal};
 use format::Layout;
 
 // What a record yields: the order key of its distance, or a refusal.
-#[derive(Drop)]
+#[derive(Clone, Copy)]
 pub enum Measure {
     Key(u64),
     Refused(Refusal),
 }
 
 // A refusal, or how many records were measured.
-#[derive(Drop)]
+#[derive(Clone, Copy)]
 pub struct Reranked {
     pub refusal: Refusal,
     pub measured: usize,

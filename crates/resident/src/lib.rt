@@ -1,4 +1,6 @@
 // Building a resident index: quantization.rs's `QuantizedSnapshot::build`, into lent slices.
+#![tactic(auto)]
+
 ghost use Rattle.std.specs.Prelude.{◌≡◌, true, ◌*◌, ◌≤◌, length};
 ghost use Rattle.format.specs.Fields.{dimensions_of, rows_of};
 ghost use Rattle.format.specs.Head.{head_number};
@@ -15,7 +17,7 @@ use config::Refusal;
 use format::{Head, Layout};
 
 // What was accepted, and the lengths of the slices as lent.
-#[derive(Drop)]
+#[derive(Clone, Copy)]
 pub struct ResidentState {
     pub head: Head,
     pub codes: usize,
@@ -24,7 +26,7 @@ pub struct ResidentState {
 }
 
 // A refusal, or what a search compares.
-#[derive(Drop)]
+#[derive(Clone, Copy)]
 pub struct Built {
     pub refusal: Refusal,
     pub state: ResidentState,

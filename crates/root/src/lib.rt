@@ -1,4 +1,6 @@
 // The square root of every f64, the Rust's `sqrt`.
+#![tactic(auto)]
+
 ghost use Rattle.std.specs.Prelude.{◌≡◌, true, ℕ, ◌+◌, ◌-◌, ◌*◌, ◌%◌, ◌^◌, ◌≤◌, ◌<◌, leb, get_or};
 ghost use Rattle.std.specs.Float.{nan, binary64};
 ghost use Rattle.std.specs.Float.Ieee.{of_bits, lt};
@@ -6,7 +8,7 @@ ghost use Rattle.float.specs.Values.{plus_zero, quad};
 ghost use Rattle.root.specs.SquareRoot.{Near, Root, IsRoot, Scale, Ordinary, sqrt_of};
 
 // A number of 106 bits is two digits of 53 bits: high * 2^53 + low.
-#[derive(Drop)]
+#[derive(Clone, Copy)]
 struct Wide {
     high: u64,
     low: u64,
@@ -120,7 +122,7 @@ fn nearest(vh: u64, vl: u64, m: u64) -> u64
 }
 
 // digits * 2^exponent
-#[derive(Drop)]
+#[derive(Clone, Copy)]
 struct Scaled {
     digits: u64,
     exponent: u64,

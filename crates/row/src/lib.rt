@@ -1,4 +1,6 @@
 // One row against a query: the row test of quantized_cache.rs (`validate_row`) and quantization.rs's `approximate_distance`.
+#![tactic(auto)]
+
 ghost use Rattle.std.specs.Prelude.{◌≡◌, true, false, ◌+◌, ◌≤◌, nat_abs, length};
 ghost use Rattle.std.specs.Float.{nan, binary64};
 ghost use Rattle.std.specs.Float.Ieee.{of_int, of_bits};
@@ -20,13 +22,13 @@ use config::{Metric, Refusal};
 use quantization::Row;
 
 // A row of a cache, where its scale is finite and above 0.
-#[derive(Drop)]
+#[derive(Clone, Copy)]
 pub enum ReadRow {
     Scaled(Row),
     Unscaled,
 }
 
-#[derive(Drop)]
+#[derive(Clone, Copy)]
 pub enum RowAnswer {
     Distance(f64),
     PassedOver,

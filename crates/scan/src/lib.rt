@@ -1,6 +1,8 @@
 // The scan of a search: the Rust's `search_selected` (generation/quantization.rs, generation/quantized_cache.rs) up to its candidates. Every
 // row is tested, and of the eligible ones the least by approximate distance are kept in two lent slices, the keys and the rows; the slices'
 // length is the limit.
+#![tactic(auto)]
+
 ghost use Rattle.std.specs.Prelude.{◌≡◌, true, not, ◌&&◌, cond, ◌+◌, ◌*◌, ◌≤◌, ◌<◌, T, leb, pos, nat_abs, length, get_or};
 ghost use Rattle.std.specs.Float.{binary64, nan};
 ghost use Rattle.std.specs.Float.Ieee.{of_int, is_nan, of_bits, to_bits};
@@ -37,7 +39,7 @@ use quantization::Row;
 use row::{ReadRow, RowAnswer};
 
 // A refusal, or how many candidates are kept, of how many eligible rows.
-#[derive(Drop)]
+#[derive(Clone, Copy)]
 pub struct Scanned {
     pub refusal: Refusal,
     pub count: usize,
@@ -45,7 +47,7 @@ pub struct Scanned {
 }
 
 // How many are kept, and the key over which none is any more.
-#[derive(Drop)]
+#[derive(Clone, Copy)]
 pub struct Held {
     pub count: usize,
     pub top: u64,
@@ -99,14 +101,14 @@ fn far_bound(metric: Metric, top: u64, norm: i64) -> u32
 // nothing. Nearly all rows are, and they go by in a loop that holds few numbers.
 
 // The last row that was gone over, and what is said of it.
-#[derive(Drop)]
+#[derive(Clone, Copy)]
 pub struct Next {
     pub row: usize,
     pub answer: RowAnswer,
 }
 
 // The first row that may not be turned away and its sums, or the end.
-#[derive(Drop)]
+#[derive(Clone, Copy)]
 pub struct Ahead {
     pub row: usize,
     pub sums: Sums,

@@ -1,5 +1,7 @@
 // The searches and agreement counts of a library, over a cache or resident rows, of all ids or of those handed in: quantized_cache.rs's
 // `CachedQuantizedSnapshot` and quantization.rs's `QuantizedSnapshot`. Each is one call of crate `call`, with empty slices for what it lacks.
+#![tactic(auto)]
+
 ghost use Rattle.std.specs.Prelude.{◌≡◌, []};
 ghost use Rattle.search_spec.specs.Lent.{answers_of, work_of, given, call_of, every, only};
 ghost use Rattle.search_spec.specs.Outcome.{returned, returned_count};

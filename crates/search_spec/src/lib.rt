@@ -1,9 +1,11 @@
 // What a search returns and looks at, as plain data. What a search is stands in specs/: what is lent to it, its tests in their order,
 // its lists and its outcome.
+#![tactic(auto)]
+
 use config::Refusal;
 
 // The lengths of the slices that a search writes: the five answer slices, the two for the candidates, the one for the ids handed in.
-#[derive(Drop)]
+#[derive(Clone, Copy)]
 pub struct Room {
     pub ids: usize,
     pub distances: usize,
@@ -16,7 +18,7 @@ pub struct Room {
 }
 
 // A place of the list: a row with its id and distance, and where its metadata lies in the segments.
-#[derive(Drop)]
+#[derive(Clone, Copy)]
 pub struct Place {
     pub id: u64,
     pub distance: f64,
@@ -26,7 +28,7 @@ pub struct Place {
 }
 
 // The Rust's `GenerationSearchReport`, with the count of places.
-#[derive(Drop)]
+#[derive(Clone, Copy)]
 pub struct Report {
     pub generation: u64,
     pub sequence: u64,
@@ -38,14 +40,14 @@ pub struct Report {
 }
 
 // A refusal, or the report of a search.
-#[derive(Drop)]
+#[derive(Clone, Copy)]
 pub struct Searched {
     pub refusal: Refusal,
     pub report: Report,
 }
 
 // A refusal, or in how many places the list and the exact list agree.
-#[derive(Drop)]
+#[derive(Clone, Copy)]
 pub struct Agreed {
     pub refusal: Refusal,
     pub agreement: usize,

@@ -1,4 +1,6 @@
 // What a library's records are: format.rs's `validate_segment` and generation.rs's `read_record`, over one slice of all segments.
+#![tactic(auto)]
+
 ghost use Rattle.std.specs.Prelude.{◌≡◌, true, map, ◌+◌, ◌*◌, ◌≤◌, ◌<◌, length};
 ghost use Rattle.crc32.specs.Tables.{slots};
 ghost use Rattle.format.specs.Fields.{segments_of, metric_at};

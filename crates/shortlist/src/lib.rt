@@ -1,5 +1,7 @@
 // Scan, then rerank: the candidates of a search by original distance, in two lent slices whose length is the limit. And for an agreement call
 // at how many places the first k of them and all eligible rows by original distance hold the same.
+#![tactic(auto)]
+
 ghost use Rattle.std.specs.Prelude.{◌≡◌, List, ℕ, ◌*◌, ◌≤◌, leb, nat_abs, length};
 ghost use Rattle.std.specs.Float.{binary64};
 ghost use Rattle.std.specs.Float.Ieee.{of_int};
@@ -22,7 +24,7 @@ use format::Layout;
 use quantization::Row;
 
 // A refusal, or how many records were measured, of how many eligible rows, and, for an agreement call, at how many places the lists agree.
-#[derive(Drop)]
+#[derive(Clone, Copy)]
 pub struct Shortlisted {
     pub refusal: Refusal,
     pub measured: usize,

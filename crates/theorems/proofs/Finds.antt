@@ -67,9 +67,9 @@ module _ (v : Rows) (c : Call) (a : Accepted c.manifest c.segments) (q : Answera
         le-leb k (length c.answers.rows) q.answer-rows,
         le-leb k (length c.answers.starts) q.answer-starts,
         le-leb k (length c.answers.lengths) q.answer-lengths,
-        le-leb l (length c.work.keys) q.candidate-keys,
-        le-leb l (length c.work.rows) q.candidate-rows,
-        le-leb (handed c.wanted) (length c.work.ids) q.id-slice,
+        le-leb l (length c.work.keys) q.candidate_keys,
+        le-leb l (length c.work.rows) q.candidate_row_slice,
+        le-leb (handed c.wanted) (length c.work.ids) q.id_slice,
       )
 
   same_head : is_same_head m (head_at m) ≡ true

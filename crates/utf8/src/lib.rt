@@ -1,4 +1,6 @@
 // UTF-8 by the grammar of RFC 3629: what `str::from_utf8` accepts.
+#![tactic(auto)]
+
 ghost use Rattle.std.specs.Prelude.{◌≡◌, ◌<◌, ◌≤◌, length, drop};
 ghost use Rattle.utf8.specs.Grammar.{one as is_one, two as is-two, three as is-three, four as is-four, tail as is-tail, span as in_span};
 ghost use Rattle.utf8.specs.Utf8.{valid as is-valid, width as width_of_lem, width₁, width₂, width₃};

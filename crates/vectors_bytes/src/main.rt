@@ -1,4 +1,6 @@
 // Vectors of CRC-32 and UTF-8. The input is a row of cases: a kind (0 CRC-32, 1 UTF-8), a length (u32) and that many bytes.
+#![tactic(auto)]
+
 ghost use Rattle.std.specs.Prelude.{◌≡◌, ◌≤◌, length};
 ghost use Rattle.crc32.specs.Tables.{entries, slots};
 

@@ -1,6 +1,8 @@
 // Sizing, preparing, opening and building, replayed on good and changed libraries and caches. The input is a row of cases: the two
 // options (u64 each), 14 numbers (u32 each), then the name, manifest, segments, platform, root and cache. make/cases.py says what the
 // numbers are and what is printed of each case.
+#![tactic(auto)]
+
 ghost use Rattle.std.specs.Prelude.{◌*◌, ◌≤◌, length};
 
 use cache_format::Options;

@@ -1,6 +1,7 @@
 // For each pattern of an f64 on standard input, eight bytes each, a line: the pattern, the root's, the order key (`-`
 // for a NaN), and the patterns of the floor at 0 and of the hold in 0..2, in 16 hexadecimal digits. A NaN among the
 // results is `nan`.
+#![tactic(auto)]
 
 fn space() {
     io::write_all(1, b" ");

@@ -1,5 +1,7 @@
 // The library check, replayed on good and changed libraries. The input is a row of cases: expected CRC-32, length of the scratch, and
 // the lengths of name, manifest and segments (u32 each), then these three. make/cases.py says what is printed of each.
+#![tactic(auto)]
+
 ghost use Rattle.std.specs.Prelude.{◌≤◌, length};
 
 use config::Refusal;

@@ -1,5 +1,6 @@
 // What the list program prints of each folder that the arguments name, after a line with the folder's name. make/README.md says what the
 // folders hold and how they were made.
+#![tactic(auto)]
 
 fn case(i: usize) {
     let mut folder = io::buffer();

@@ -1,5 +1,7 @@
 // The Rust's answers on the encoder and the distances, replayed. The input is a row of cases: a metric byte and five vectors of 43 f32
 // (a part of 32 codes and a rest): the query, the record and three more. make/main.rs says what is printed of each.
+#![tactic(auto)]
+
 ghost use Rattle.std.specs.Prelude.{◌≡◌, true, ◌≤◌, nat_abs};
 ghost use Rattle.config.specs.Vector.{finites, floats_at};
 ghost use Rattle.codes.specs.Codes.{Small};

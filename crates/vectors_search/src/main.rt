@@ -1,5 +1,7 @@
 // Searches and refusals, replayed on libraries of the Rust's. The input is a row of libraries, each with the commands that follow it:
 // changes of what is lent, and calls. make/cases.py says how they are laid out and what is printed of each.
+#![tactic(auto)]
+
 ghost use Rattle.std.specs.Prelude.{◌≡◌, ◌+◌, ◌*◌, ◌≤◌, length};
 
 use cache_format::Options;
@@ -257,7 +259,7 @@ fn print_places(
 // ---- A call.
 
 // The numbers of a command.
-#[derive(Drop)]
+#[derive(Clone, Copy)]
 struct Call {
     kind: usize,
     k: usize,

@@ -17,7 +17,7 @@ model c κs =
     let b = c.before.before.before.before.before in
     let h = bounds b.args.m.now b.requires in
     let n = c.before.before.before.count_at.ensures.0 in
-    (omega (arith, h.end, n), omega (arith, h.model-high, n))
+    (omega (arith, h.end, n), omega (arith, h.model_high, n))
 
 segments : tie.Need-count-at-requires-2
 unfolding length_of_model
