@@ -45,7 +45,7 @@ pub fn key_row(key: u64) -> usize
 
 fn fill(m: &[u8], layout: Layout, scratch: &mut [u64])
     requires { LaidOut m.now layout × (layout.rows ≤ length scratch.old) × (rows_ok m.now ≡ true) }
-    ensures* { λ r. ⌜ scratch.new ≡ map (key m.now) (passing (λ r. true) (rows_of m.now)) ++ drop (rows_of m.now) scratch.old ⌝ }
+    ensures { scratch.new ≡ map (key m.now) (passing (λ r. true) (rows_of m.now)) ++ drop (rows_of m.now) scratch.old }
 {
     let mut row = 0;
     while row < layout.rows {

@@ -1,5 +1,5 @@
 -- Membership, and relations between the elements of a list.
-use mathlib.Core.Path.{◌≡◌, refl, sym}
+use mathlib.Core.Path.{◌≡◌, refl, sym, subst}
 use mathlib.Core.Logic.{◌⊎◌, inl, inr, ⊎_elim, ⊎_map}
 use mathlib.Core.List.{List, [], ◌∷◌, ◌++◌, map}
 use Prim.Native.Nat.{ℕ, zero, suc, ◌≤◌, ◌<◌}
@@ -9,6 +9,10 @@ use lib.Seq.{take-take}
 use Rattle.rank.specs.Sort.{◌∈◌, Pairwise, Distinct}
 
 module _ {A : Type 0} where
+  -- an element under another name
+  pub mem_along : {x y : A} (l : List A) → x ≡ y → x ∈ l → y ∈ l
+  mem_along l e h = subst (λ (z : A). z ∈ l) e h
+
   pub mem_take : (z : A) (k : ℕ) (xs : List A) → z ∈ take k xs → z ∈ xs
   mem_take z zero xs h = absurd h
   mem_take z (suc k) [] h = h

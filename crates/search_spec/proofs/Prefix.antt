@@ -10,6 +10,7 @@ use lib.Dec.{eqb}
 use lib.ListN.{length, get_or}
 use borrow.Author.Tests.{eqb-true, eqb-false, ne_eqb}
 use Rattle.le.proofs.Chain.{by}
+use Rattle.rank.proofs.Members.{mem_along}
 use Rattle.rank.specs.Sort.{◌∈◌, Distinct, TotalOrder, Ascending}
 use Rattle.search_spec.specs.Outcome.{same_places}
 
@@ -55,7 +56,7 @@ module _ (le : ℕ → ℕ → Bool) (O : TotalOrder le) where
     not_before : (w : ℕ) → w ∈ (x ∷ l) → le w y ≡ false
     not_before w i =
         by (le w y)
-        (λ t. absurd (lacks (⊎_elim (λ h. rw (← h) i) (λ j. let q : w ≡ y = O.antisym t (p.all_up.0 w j) in rw (← q) i) (p.within w i))))
+        (λ t. absurd (lacks (⊎_elim (λ h. mem_along (x ∷ l) h i) (λ j. mem_along (x ∷ l) (O.antisym t (p.all_up.0 w j)) i) (p.within w i))))
         (λ t. t)
 
   none_before : (z : ℕ) (l : List ℕ) → ((w : ℕ) → w ∈ l → le w z ≡ false) → before le z l ≡ 0
@@ -88,7 +89,7 @@ module _ (le : ℕ → ℕ → Bool) (O : TotalOrder le) where
       (λ t. let n = eqb-false x y t in
       let o : prefix (x ∷ l) (y ∷ e) ≡ 0 = rw t in
       apart (x ∷ l) y e p.up p.once p.all_up p.all_once
-      (λ w i. ⊎_elim (λ q. absurd (lacks n p (rw q at i))) (λ j. j) (p.within w i)) ∙ sym o)
+      (λ w i. ⊎_elim (λ q. absurd (lacks n p (mem_along (x ∷ l) q i))) (λ j. j) (p.within w i)) ∙ sym o)
 
   -- z is the least of e that l lacks
   pub record Lacked (l e : List ℕ) (z : ℕ) : Type 0 where
@@ -117,7 +118,7 @@ module _ (le : ℕ → ℕ → Bool) (O : TotalOrder le) where
       (λ t. let n = eqb-false x y t in
       let a : le z y ≡ true = k.least-one y (inl refl) (lacks n p) in
       let q : z ≡ y = ⊎_elim (λ h. h) (λ j. O.antisym a (p.all_up.0 z j)) k.in_all in
-      rw (t, q) (sym (none_before y (x ∷ l) (not_before n p))))
+      rw t (sym (none_before z (x ∷ l) (λ w i. rw q (not_before n p w i)))))
 
   pub prefix-all : (l e : List ℕ) → Part l e → ((y : ℕ) → y ∈ e → y ∈ l) → prefix l e ≡ length l
   unfolding prefix

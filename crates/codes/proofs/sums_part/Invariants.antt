@@ -1,0 +1,10 @@
+use Prim.Native.Nat.{◌+◌, ◌-◌, ◌≤◌}
+use Rattle.codes.specs.Codes.{codes}
+use Rattle.codes.specs.Sums.{Summed}
+use Rattle.codes.proofs.sums_part.Given as goal
+
+abbrev pub invariant-loop-j : goal.invariant-loop-j
+invariant-loop-j l = (l.j ≤ l.n) × Summed l.levels (l.p + l.j - l.i) (codes l.c) l.at l.q l.i l.s
+
+abbrev pub decreases-loop-j : goal.decreases-loop-j
+decreases-loop-j l = l.n - l.j

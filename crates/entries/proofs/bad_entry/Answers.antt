@@ -1,0 +1,8 @@
+use mathlib.Core.Path.{◌∙◌}
+use Rattle.format.specs.Fields.{rows_of}
+use Rattle.entries.specs.Plan.{entry_ok}
+use Rattle.format.proofs.First.{next-first}
+use Rattle.entries.proofs.bad_entry.Goals as goal
+
+pub returns : goal.returns
+returns c = let m = c.args.m.now in c.bad_entry_from.ensures ∙ next-first (entry_ok m) (rows_of m)

@@ -1,0 +1,12 @@
+use Rattle.config.proofs.Coordinates.{all-at}
+use Rattle.std.proofs.Common.{not, get_or}
+use lib.Ieee.{nan, binary64, fits, is_nan}
+use lib.Ieee.Fits.{and_i, fits_widens}
+use lib.Ieee.Scale.{finite}
+use Rattle.float.proofs.BitLaws.{finite_number}
+use Rattle.math.proofs.coordinate.Goals as goal
+
+pub float_to_float-result : goal.float_to_float-result
+float_to_float-result c =
+    let x = get_or c.args.v.now c.args.i nan in
+    and_i (fits binary64 x) (not (is_nan x)) (fits_widens x c.row_known-1.given) (finite_number x (all-at finite c.args.v.now c.args.i nan c.requires.1 c.requires.0))

@@ -1,0 +1,26 @@
+use native.Mathlib.Omega.{arith}
+use mathlib.Core.Path.{sym, ap, ◌∙◌}
+use Prim.Native.Nat.{◌<◌}
+use mir.Syntax.{w32}
+use mir.Facts.{to_z-of_z}
+use Rattle.row.specs.Answer.{measured, answer}
+use Rattle.row.proofs.Views.{norm-small}
+use Rattle.row.proofs.scaled_row.Goals as goal
+
+pub returns-then-sums_hold : goal.returns-then-sums_hold
+unfolding answer
+returns-then-sums_hold c =
+    let a = c.args in
+    rw (sym c.sums_hold.ensures ∙ c.if-sums_hold.true)
+    (c.measured.ensures ∙ ap (measured a.place) (rw (to_z-of_z {w = w32} {z = a.sums.dot} (record { sfits = omega (arith, c.struct_told-1.given.0) })) at c.approximate_distance.ensures))
+
+pub returns : goal.returns
+unfolding answer
+returns c = rw (sym c.sums_hold.ensures ∙ c.if-sums_hold.false) c.refused.ensures
+
+pub approximate_distance-requires : goal.approximate_distance-requires
+approximate_distance-requires c =
+    let a = c.args in
+    let s = a.sums in
+    let w : s.squares < 4294967296 = omega (arith, c.struct_told-1.given) in
+    (norm-small a.metric a.row.norm s.squares s.whole w (sym c.sums_hold.ensures ∙ c.if-sums_hold.true), c.requires.0, c.requires.1)
