@@ -1,7 +1,7 @@
 -- A row that is turned away has an answer that changes nothing.
 use mathlib.Core.Path.{◌≡◌, refl, sym, ap, ◌∙◌, subst}
 use mathlib.Core.Logic.{inl, inr}
-use mathlib.Core.Bool.{Bool, true, false, not, ◌&&◌, and-eq-true_iff, true≢false, false≢true}
+use mathlib.Core.Bool.{Bool, true, false, ◌&&◌, and-eq-true_iff, true≢false, false≢true}
 use mathlib.Core.List.{List}
 use Prim.Native.Nat.{ℕ, ◌+◌, ◌*◌, ◌^◌, ◌≤◌, ◌<◌}
 use native.Mathlib.Omega.{arith}
@@ -38,10 +38,6 @@ use Rattle.scan.specs.Far.{Limits, Over, TurnedAway, Entered}
 true_of : (b : Bool) → T b → b ≡ true
 true_of true h = refl
 true_of false h = absurd h
-
-pub not_left : (b : Bool) → not b ≡ false → b ≡ true
-not_left true h = refl
-not_left false h = absurd (true≢false h)
 
 pub word_small : (z : ℤ) → SFits w32 z → nat_abs z ≤ 2 ^ 31
 word_small (pos n) f = omega (arith, f.sfits)

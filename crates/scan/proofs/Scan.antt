@@ -44,7 +44,7 @@ use Rattle.format.proofs.Refusals.{passes, each_none, refusal-stop, refusal-end}
 use Rattle.entries.specs.Plan.{rows_ok}
 use Rattle.entries.proofs.Entries.{ids_rise}
 use Rattle.quantized_cache.specs.Open.{RoomFor, row_start}
-use Rattle.quantized_cache.proofs.Opens.{Lies}
+use Rattle.quantized_cache.proofs.Opens.{Lies, lies}
 use Rattle.cache_format.specs.Cache.{row_length}
 use Rattle.le.proofs.Joined.{part-ends}
 use Rattle.search_spec.specs.Lent.{given, everyone, wants}
@@ -290,6 +290,16 @@ went levels m eligible view query {row = row} {e = e} {r = r} N t q p h a =
       wanted = N.wanted;
     }
 
+-- by what a turn of the scan knows, of `s` the ids that are given
+pub went_reach : (m s : List ℕ) (all : Bool) (view : ℕ → ℕ → ℕ → View) {levels : ℕ} {query : View} {metric : Metric} {n k row to top : ℕ} {e : Bool} {r : Next}
+    → NextIs levels metric (view k n) query e row to top r → metric ≡ metric_at m → n ≡ dimensions_of m → k ≡ rows_of m
+    → to ≡ cond all k (row + 1) → row < k → e ≡ is_eligible (given all s) everyone m row
+    → Went levels m (is_eligible (given all s) everyone m) (view (rows_of m) (dimensions_of m)) query e row top r
+went_reach m s all view {levels} {query} {k = k} {row = row} {to = to} N t q p reach low is =
+    let h = reach_holds all row k to reach low in
+    went levels m (is_eligible (given all s) everyone m) view query N t q p (omega (arith, h.1, p))
+    (λ i l j. eligible-alike all s m row k to i reach is l j)
+
 module _ {levels : ℕ} {m : List ℕ} {eligible : ℕ → Bool} {view : ℕ → View} {query : View} {e : Bool} {row top : ℕ} {r : Next} (W : Went levels m eligible view query e row top r) where
   pub gone : {limit : ℕ} {ks rs : List ℕ} {n : ℕ} → Scanning levels m eligible view query limit row ks rs n top → Scanning levels m eligible view query limit r.row ks rs n top
   gone {limit} {ks} {rs} {n} S =
@@ -323,6 +333,9 @@ room_less rows row n h =
 
 pub start_less : (size rows row n : ℕ) → row_start size (rows - row) n 0 ≡ row_start size rows n row
 start_less size rows row n = let e : rows - row - 0 ≡ rows - row = omega arith in rw e
+
+pub lies_before : (size rows n row : ℕ) {to : ℕ} → RoomFor size rows n → row < to → to ≤ rows → Lies size rows n row
+lies_before size rows n row room h g = lies size rows n row room (omega arith)
 
 pub start-next : {size rows n row at stride : ℕ} → Lies size rows n row → at ≡ row_start size rows n row → stride ≡ row_length n
     → at + stride ≡ row_start size rows n (row + 1)
