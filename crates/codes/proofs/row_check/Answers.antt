@@ -12,40 +12,40 @@ use Rattle.codes.proofs.row_check.Goals.{else-r-ge16, else-r-ge32, then-r-ge16, 
 after-16 : (c : goal.Then-r-ge32) → (c.if-r-ge16.i + c.if-r-ge16.r ≡ c.args.n) × (c.if-r-ge16.r % 32 < 16) × Checked c.args.levels c.if-r-ge16.i (codes c.args.c.now) c.args.at 0 c.if-r-ge16.s.squares c.if-r-ge16.s.whole
 after-16 c =
     elim c.if-r-ge16.branch [
-      then-r-ge16 w ↦ rw (w.s-is, w.i-is, w.r-is) (omega (arith, w.if-r-ge16.true), omega (arith, w.if-r-ge16.true), w.check_part-s.ensures)
-    | else-r-ge16 w ↦ rw (w.s-is, w.i-is, w.r-is) (omega arith, omega (arith, w.if-r-ge16.false), check_start refl)
+      | then-r-ge16 w ↦ rw (w.s-is, w.i-is, w.r-is) (omega (arith, w.if-r-ge16.true), omega (arith, w.if-r-ge16.true), w.check_part-s.ensures)
+      | else-r-ge16 w ↦ rw (w.s-is, w.i-is, w.r-is) (omega arith, omega (arith, w.if-r-ge16.false), check_start refl)
     ]
 
 -- what holds after an odd part of 16, and after the turns
 after-16-2 : (c : goal.Then-r-eq0) → (c.if-r-ge16.i + c.if-r-ge16.r ≡ c.args.n) × (c.if-r-ge16.r % 32 < 16) × Checked c.args.levels c.if-r-ge16.i (codes c.args.c.now) c.args.at 0 c.if-r-ge16.s.squares c.if-r-ge16.s.whole
 after-16-2 c =
     elim c.if-r-ge16.branch [
-      then-r-ge16 w ↦ rw (w.s-is, w.i-is, w.r-is) (omega (arith, w.if-r-ge16.true), omega (arith, w.if-r-ge16.true), w.check_part-s.ensures)
-    | else-r-ge16 w ↦ rw (w.s-is, w.i-is, w.r-is) (omega arith, omega (arith, w.if-r-ge16.false), check_start refl)
+      | then-r-ge16 w ↦ rw (w.s-is, w.i-is, w.r-is) (omega (arith, w.if-r-ge16.true), omega (arith, w.if-r-ge16.true), w.check_part-s.ensures)
+      | else-r-ge16 w ↦ rw (w.s-is, w.i-is, w.r-is) (omega arith, omega (arith, w.if-r-ge16.false), check_start refl)
     ]
 
 -- what holds after an odd part of 16, and after the turns
 after-16-3 : (c : goal.Else-r-eq0) → (c.if-r-ge16.i + c.if-r-ge16.r ≡ c.args.n) × (c.if-r-ge16.r % 32 < 16) × Checked c.args.levels c.if-r-ge16.i (codes c.args.c.now) c.args.at 0 c.if-r-ge16.s.squares c.if-r-ge16.s.whole
 after-16-3 c =
     elim c.if-r-ge16.branch [
-      then-r-ge16 w ↦ rw (w.s-is, w.i-is, w.r-is) (omega (arith, w.if-r-ge16.true), omega (arith, w.if-r-ge16.true), w.check_part-s.ensures)
-    | else-r-ge16 w ↦ rw (w.s-is, w.i-is, w.r-is) (omega arith, omega (arith, w.if-r-ge16.false), check_start refl)
+      | then-r-ge16 w ↦ rw (w.s-is, w.i-is, w.r-is) (omega (arith, w.if-r-ge16.true), omega (arith, w.if-r-ge16.true), w.check_part-s.ensures)
+      | else-r-ge16 w ↦ rw (w.s-is, w.i-is, w.r-is) (omega arith, omega (arith, w.if-r-ge16.false), check_start refl)
     ]
 
 after-turns : (c : goal.Then-r-eq0) → (c.if-r-ge32.i + c.if-r-ge32.r ≡ c.args.n) × (c.if-r-ge32.r < 16) × Checked c.args.levels c.if-r-ge32.i (codes c.args.c.now) c.args.at 0 c.if-r-ge32.s.squares c.if-r-ge32.s.whole
 after-turns c =
     let m = after-16-2 c in
     elim c.if-r-ge32.branch [
-      then-r-ge32+else-loop-r-test+else-loop-r-then-r-ge32-test+else-loop-r-then-r-ge32-2-test w ↦ rw (w.s-is, w.i-is, w.r-is) (w.loop-r-then-r-ge32-2.invariant.0, omega (arith, w.loop-r-then-r-ge32-2.invariant.1, w.loop-r-then-r-ge32-2-test.false), w.loop-r-then-r-ge32-2.invariant.2)
-    | else-r-ge32 w ↦ rw (w.s-is, w.i-is, w.r-is) (m.0, omega (arith, m.1, w.if-r-ge32.false), m.2)
+      | then-r-ge32+else-loop-r-test+else-loop-r-then-r-ge32-test+else-loop-r-then-r-ge32-2-test w ↦ rw (w.s-is, w.i-is, w.r-is) (w.loop-r-then-r-ge32-2.invariant.0, omega (arith, w.loop-r-then-r-ge32-2.invariant.1, w.loop-r-then-r-ge32-2-test.false), w.loop-r-then-r-ge32-2.invariant.2)
+      | else-r-ge32 w ↦ rw (w.s-is, w.i-is, w.r-is) (m.0, omega (arith, m.1, w.if-r-ge32.false), m.2)
     ]
 
 after-turns-2 : (c : goal.Else-r-eq0) → (c.if-r-ge32.i + c.if-r-ge32.r ≡ c.args.n) × (c.if-r-ge32.r < 16) × Checked c.args.levels c.if-r-ge32.i (codes c.args.c.now) c.args.at 0 c.if-r-ge32.s.squares c.if-r-ge32.s.whole
 after-turns-2 c =
     let m = after-16-3 c in
     elim c.if-r-ge32.branch [
-      then-r-ge32+else-loop-r-test+else-loop-r-then-r-ge32-test+else-loop-r-then-r-ge32-2-test w ↦ rw (w.s-is, w.i-is, w.r-is) (w.loop-r-then-r-ge32-2.invariant.0, omega (arith, w.loop-r-then-r-ge32-2.invariant.1, w.loop-r-then-r-ge32-2-test.false), w.loop-r-then-r-ge32-2.invariant.2)
-    | else-r-ge32 w ↦ rw (w.s-is, w.i-is, w.r-is) (m.0, omega (arith, m.1, w.if-r-ge32.false), m.2)
+      | then-r-ge32+else-loop-r-test+else-loop-r-then-r-ge32-test+else-loop-r-then-r-ge32-2-test w ↦ rw (w.s-is, w.i-is, w.r-is) (w.loop-r-then-r-ge32-2.invariant.0, omega (arith, w.loop-r-then-r-ge32-2.invariant.1, w.loop-r-then-r-ge32-2-test.false), w.loop-r-then-r-ge32-2.invariant.2)
+      | else-r-ge32 w ↦ rw (w.s-is, w.i-is, w.r-is) (m.0, omega (arith, m.1, w.if-r-ge32.false), m.2)
     ]
 
 pub returns-then-n-lt16 : goal.returns-then-n-lt16

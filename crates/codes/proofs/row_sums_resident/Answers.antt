@@ -12,80 +12,80 @@ use Rattle.codes.proofs.row_sums_resident.Goals.{else-r-ge16, else-r-ge32, else-
 after-16 : (c : goal.Then-r-ge32-2) → (c.if-r-ge16.i + c.if-r-ge16.r ≡ length c.args.q.now) × (c.if-r-ge16.r % 32 < 16) × Summed c.args.levels c.if-r-ge16.i c.args.c.now c.args.at c.args.q.now 0 c.if-r-ge16.s
 after-16 c =
     elim c.if-r-ge16.branch [
-      then-r-ge16 w ↦ rw (w.s-is, w.i-is, w.r-is) (omega (arith, w.if-r-ge16.true), omega (arith, w.if-r-ge16.true), w.sums_first_resident-s.ensures)
-    | else-r-ge16 w ↦ rw (w.s-is, w.i-is, w.r-is) (omega arith, omega (arith, w.if-r-ge16.false), sums-start refl (omega (arith, c.requires.q_in_bounds)) (omega arith) refl refl refl)
+      | then-r-ge16 w ↦ rw (w.s-is, w.i-is, w.r-is) (omega (arith, w.if-r-ge16.true), omega (arith, w.if-r-ge16.true), w.sums_first_resident-s.ensures)
+      | else-r-ge16 w ↦ rw (w.s-is, w.i-is, w.r-is) (omega arith, omega (arith, w.if-r-ge16.false), sums-start refl (omega (arith, c.requires.q_in_bounds)) (omega arith) refl refl refl)
     ]
 
 -- what holds after an odd part of 16, after an odd turn of 32, and after the turns
 after-16-2 : (c : goal.After-row_known-then-r-ge32-2-1) → (c.if-r-ge16.i + c.if-r-ge16.r ≡ length c.args.q.now) × (c.if-r-ge16.r % 32 < 16) × Summed c.args.levels c.if-r-ge16.i c.args.c.now c.args.at c.args.q.now 0 c.if-r-ge16.s
 after-16-2 c =
     elim c.if-r-ge16.branch [
-      then-r-ge16 w ↦ rw (w.s-is, w.i-is, w.r-is) (omega (arith, w.if-r-ge16.true), omega (arith, w.if-r-ge16.true), w.sums_first_resident-s.ensures)
-    | else-r-ge16 w ↦ rw (w.s-is, w.i-is, w.r-is) (omega arith, omega (arith, w.if-r-ge16.false), sums-start refl (omega (arith, c.requires.q_in_bounds)) (omega arith) refl refl refl)
+      | then-r-ge16 w ↦ rw (w.s-is, w.i-is, w.r-is) (omega (arith, w.if-r-ge16.true), omega (arith, w.if-r-ge16.true), w.sums_first_resident-s.ensures)
+      | else-r-ge16 w ↦ rw (w.s-is, w.i-is, w.r-is) (omega arith, omega (arith, w.if-r-ge16.false), sums-start refl (omega (arith, c.requires.q_in_bounds)) (omega arith) refl refl refl)
     ]
 
 -- what holds after an odd part of 16, after an odd turn of 32, and after the turns
 after-16-3 : (c : goal.Joined-r-ge32-2) → (c.if-r-ge16.i + c.if-r-ge16.r ≡ length c.args.q.now) × (c.if-r-ge16.r % 32 < 16) × Summed c.args.levels c.if-r-ge16.i c.args.c.now c.args.at c.args.q.now 0 c.if-r-ge16.s
 after-16-3 c =
     elim c.if-r-ge16.branch [
-      then-r-ge16 w ↦ rw (w.s-is, w.i-is, w.r-is) (omega (arith, w.if-r-ge16.true), omega (arith, w.if-r-ge16.true), w.sums_first_resident-s.ensures)
-    | else-r-ge16 w ↦ rw (w.s-is, w.i-is, w.r-is) (omega arith, omega (arith, w.if-r-ge16.false), sums-start refl (omega (arith, c.requires.q_in_bounds)) (omega arith) refl refl refl)
+      | then-r-ge16 w ↦ rw (w.s-is, w.i-is, w.r-is) (omega (arith, w.if-r-ge16.true), omega (arith, w.if-r-ge16.true), w.sums_first_resident-s.ensures)
+      | else-r-ge16 w ↦ rw (w.s-is, w.i-is, w.r-is) (omega arith, omega (arith, w.if-r-ge16.false), sums-start refl (omega (arith, c.requires.q_in_bounds)) (omega arith) refl refl refl)
     ]
 
 -- what holds after an odd part of 16, after an odd turn of 32, and after the turns
 after-16-4 : (c : goal.Then-r-eq0) → (c.if-r-ge16.i + c.if-r-ge16.r ≡ length c.args.q.now) × (c.if-r-ge16.r % 32 < 16) × Summed c.args.levels c.if-r-ge16.i c.args.c.now c.args.at c.args.q.now 0 c.if-r-ge16.s
 after-16-4 c =
     elim c.if-r-ge16.branch [
-      then-r-ge16 w ↦ rw (w.s-is, w.i-is, w.r-is) (omega (arith, w.if-r-ge16.true), omega (arith, w.if-r-ge16.true), w.sums_first_resident-s.ensures)
-    | else-r-ge16 w ↦ rw (w.s-is, w.i-is, w.r-is) (omega arith, omega (arith, w.if-r-ge16.false), sums-start refl (omega (arith, c.requires.q_in_bounds)) (omega arith) refl refl refl)
+      | then-r-ge16 w ↦ rw (w.s-is, w.i-is, w.r-is) (omega (arith, w.if-r-ge16.true), omega (arith, w.if-r-ge16.true), w.sums_first_resident-s.ensures)
+      | else-r-ge16 w ↦ rw (w.s-is, w.i-is, w.r-is) (omega arith, omega (arith, w.if-r-ge16.false), sums-start refl (omega (arith, c.requires.q_in_bounds)) (omega arith) refl refl refl)
     ]
 
 -- what holds after an odd part of 16, after an odd turn of 32, and after the turns
 after-16-5 : (c : goal.Then-r-lt7) → (c.if-r-ge16.i + c.if-r-ge16.r ≡ length c.args.q.now) × (c.if-r-ge16.r % 32 < 16) × Summed c.args.levels c.if-r-ge16.i c.args.c.now c.args.at c.args.q.now 0 c.if-r-ge16.s
 after-16-5 c =
     elim c.if-r-ge16.branch [
-      then-r-ge16 w ↦ rw (w.s-is, w.i-is, w.r-is) (omega (arith, w.if-r-ge16.true), omega (arith, w.if-r-ge16.true), w.sums_first_resident-s.ensures)
-    | else-r-ge16 w ↦ rw (w.s-is, w.i-is, w.r-is) (omega arith, omega (arith, w.if-r-ge16.false), sums-start refl (omega (arith, c.requires.q_in_bounds)) (omega arith) refl refl refl)
+      | then-r-ge16 w ↦ rw (w.s-is, w.i-is, w.r-is) (omega (arith, w.if-r-ge16.true), omega (arith, w.if-r-ge16.true), w.sums_first_resident-s.ensures)
+      | else-r-ge16 w ↦ rw (w.s-is, w.i-is, w.r-is) (omega arith, omega (arith, w.if-r-ge16.false), sums-start refl (omega (arith, c.requires.q_in_bounds)) (omega arith) refl refl refl)
     ]
 
 -- what holds after an odd part of 16, after an odd turn of 32, and after the turns
 after-16-6 : (c : goal.Else-r-lt7) → (c.if-r-ge16.i + c.if-r-ge16.r ≡ length c.args.q.now) × (c.if-r-ge16.r % 32 < 16) × Summed c.args.levels c.if-r-ge16.i c.args.c.now c.args.at c.args.q.now 0 c.if-r-ge16.s
 after-16-6 c =
     elim c.if-r-ge16.branch [
-      then-r-ge16 w ↦ rw (w.s-is, w.i-is, w.r-is) (omega (arith, w.if-r-ge16.true), omega (arith, w.if-r-ge16.true), w.sums_first_resident-s.ensures)
-    | else-r-ge16 w ↦ rw (w.s-is, w.i-is, w.r-is) (omega arith, omega (arith, w.if-r-ge16.false), sums-start refl (omega (arith, c.requires.q_in_bounds)) (omega arith) refl refl refl)
+      | then-r-ge16 w ↦ rw (w.s-is, w.i-is, w.r-is) (omega (arith, w.if-r-ge16.true), omega (arith, w.if-r-ge16.true), w.sums_first_resident-s.ensures)
+      | else-r-ge16 w ↦ rw (w.s-is, w.i-is, w.r-is) (omega arith, omega (arith, w.if-r-ge16.false), sums-start refl (omega (arith, c.requires.q_in_bounds)) (omega arith) refl refl refl)
     ]
 
 after-32 : (c : goal.Joined-r-ge32-2) → (c.if-r-ge32-2.i + c.if-r-ge32-2.r ≡ length c.args.q.now) × (c.if-r-ge32-2.r % 64 < 16) × Summed c.args.levels c.if-r-ge32-2.i c.args.c.now c.args.at c.args.q.now 0 c.if-r-ge32-2.s
 after-32 c =
     let m = after-16-3 c in
     elim c.if-r-ge32-2.branch [
-      then-r-ge32-2 w ↦ rw (w.s-is, w.i-is, w.r-is) (omega (arith, m.0, w.if-r-ge32-2.true), omega (arith, m.1, w.if-r-ge32-2.true), w.sums_32_resident-s.ensures)
-    | else-r-ge32-2 w ↦ rw (w.s-is, w.i-is, w.r-is) (m.0, omega (arith, m.1, w.if-r-ge32-2.false), m.2)
+      | then-r-ge32-2 w ↦ rw (w.s-is, w.i-is, w.r-is) (omega (arith, m.0, w.if-r-ge32-2.true), omega (arith, m.1, w.if-r-ge32-2.true), w.sums_32_resident-s.ensures)
+      | else-r-ge32-2 w ↦ rw (w.s-is, w.i-is, w.r-is) (m.0, omega (arith, m.1, w.if-r-ge32-2.false), m.2)
     ]
 
 after-turns : (c : goal.Then-r-eq0) → (c.if-r-ge32.i + c.if-r-ge32.r ≡ length c.args.q.now) × (c.if-r-ge32.r < 16) × Summed c.args.levels c.if-r-ge32.i c.args.c.now c.args.at c.args.q.now 0 c.if-r-ge32.s
 after-turns c =
     let m = after-16-4 c in
     elim c.if-r-ge32.branch [
-      then-r-ge32+else-loop-r-test w ↦ rw (w.s-is, w.i-is, w.r-is) (w.loop-r.invariant.0, omega (arith, w.loop-r.invariant.1, w.loop-r-test.false), w.loop-r.invariant.2)
-    | else-r-ge32 w ↦ rw (w.s-is, w.i-is, w.r-is) (m.0, omega (arith, m.1, w.if-r-ge32.false), m.2)
+      | then-r-ge32+else-loop-r-test w ↦ rw (w.s-is, w.i-is, w.r-is) (w.loop-r.invariant.0, omega (arith, w.loop-r.invariant.1, w.loop-r-test.false), w.loop-r.invariant.2)
+      | else-r-ge32 w ↦ rw (w.s-is, w.i-is, w.r-is) (m.0, omega (arith, m.1, w.if-r-ge32.false), m.2)
     ]
 
 after-turns-2 : (c : goal.Then-r-lt7) → (c.if-r-ge32.i + c.if-r-ge32.r ≡ length c.args.q.now) × (c.if-r-ge32.r < 16) × Summed c.args.levels c.if-r-ge32.i c.args.c.now c.args.at c.args.q.now 0 c.if-r-ge32.s
 after-turns-2 c =
     let m = after-16-5 c in
     elim c.if-r-ge32.branch [
-      then-r-ge32+else-loop-r-test w ↦ rw (w.s-is, w.i-is, w.r-is) (w.loop-r.invariant.0, omega (arith, w.loop-r.invariant.1, w.loop-r-test.false), w.loop-r.invariant.2)
-    | else-r-ge32 w ↦ rw (w.s-is, w.i-is, w.r-is) (m.0, omega (arith, m.1, w.if-r-ge32.false), m.2)
+      | then-r-ge32+else-loop-r-test w ↦ rw (w.s-is, w.i-is, w.r-is) (w.loop-r.invariant.0, omega (arith, w.loop-r.invariant.1, w.loop-r-test.false), w.loop-r.invariant.2)
+      | else-r-ge32 w ↦ rw (w.s-is, w.i-is, w.r-is) (m.0, omega (arith, m.1, w.if-r-ge32.false), m.2)
     ]
 
 after-turns-3 : (c : goal.Else-r-lt7) → (c.if-r-ge32.i + c.if-r-ge32.r ≡ length c.args.q.now) × (c.if-r-ge32.r < 16) × Summed c.args.levels c.if-r-ge32.i c.args.c.now c.args.at c.args.q.now 0 c.if-r-ge32.s
 after-turns-3 c =
     let m = after-16-6 c in
     elim c.if-r-ge32.branch [
-      then-r-ge32+else-loop-r-test w ↦ rw (w.s-is, w.i-is, w.r-is) (w.loop-r.invariant.0, omega (arith, w.loop-r.invariant.1, w.loop-r-test.false), w.loop-r.invariant.2)
-    | else-r-ge32 w ↦ rw (w.s-is, w.i-is, w.r-is) (m.0, omega (arith, m.1, w.if-r-ge32.false), m.2)
+      | then-r-ge32+else-loop-r-test w ↦ rw (w.s-is, w.i-is, w.r-is) (w.loop-r.invariant.0, omega (arith, w.loop-r.invariant.1, w.loop-r-test.false), w.loop-r.invariant.2)
+      | else-r-ge32 w ↦ rw (w.s-is, w.i-is, w.r-is) (m.0, omega (arith, m.1, w.if-r-ge32.false), m.2)
     ]
 
 pub returns-then-n-lt16 : goal.returns-then-n-lt16
