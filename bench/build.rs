@@ -1,4 +1,4 @@
-//! Links the proved library that `rt staticlib bench_exports` has written.
+//! Links the proved library that `tools/archive bench_exports` has written.
 fn main() {
     let root = std::path::Path::new(env!("CARGO_MANIFEST_DIR")).parent().unwrap();
     println!("cargo:rustc-link-search=native={}", root.join("target/staticlib").display());

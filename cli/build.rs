@@ -1,4 +1,4 @@
-//! Links the proved archive. PIVATSOHY_ARCHIVE names it; otherwise it is the one that `rt staticlib api` writes.
+//! Links the proved archive. PIVATSOHY_ARCHIVE names it; otherwise it is the one that `tools/archive api` writes.
 use std::{env, path::Path, process::exit};
 
 fn main() {
@@ -9,7 +9,7 @@ fn main() {
     println!("cargo:rerun-if-changed={}", archive.display());
     let (Some(folder), Some(name)) = (archive.parent(), archive.file_name()) else { exit(1) };
     if !archive.is_file() {
-        println!("cargo:error={} is not there: `rt staticlib api` writes it", archive.display());
+        println!("cargo:error={} is not there: `tools/archive api` writes it", archive.display());
         exit(1);
     }
     println!("cargo:rustc-link-search=native={}", folder.display());
