@@ -6,6 +6,9 @@ ghost use Rattle.io.specs.Counts.{IsPrefixLen};
 
 use listing_input::There;
 use listing_text::LISTING_BYTES;
+use std::fs;
+use std::io::{Error, ErrorKind};
+use std::rt::Files;
 
 // A byte more than a file may have, so that one that is too long shows.
 const BUFFER_BYTES: usize = listing_input::MAX_FILE_BYTES + 1;
@@ -28,21 +31,24 @@ fn buffer() -> [u8; BUFFER_BYTES]
     [0; BUFFER_BYTES]
 }
 
-// No folder has an empty path, and no file one that is too long.
-fn open(folder: &[u8], name: &[u8]) -> i32
+// No folder has an empty path, and no file one that is too long. A path is UTF-8 to std: one that is not cannot be opened.
+fn open<R: Files>(rt: &R, folder: &[u8], name: &str) -> Option<R::File>
     requires { length name.now ≤ 8 }
 {
     if folder.len() == 0 {
-        return -1;
+        return None;
     }
     if folder.len() > FOLDER_BYTES {
-        return -1;
+        return None;
     }
     let mut path = io::buffer();
     let a = text::put_bytes(&mut path, 0, folder);
     let b = text::put_bytes(&mut path, a, b"/");
-    let n = text::put_bytes(&mut path, b, name);
-    os::open_read(&path[..n])
+    let n = text::put_bytes(&mut path, b, name.as_bytes());
+    match str::from_utf8(&path[..n]) {
+        Ok(path) => fs::open(rt, path).ok(),
+        Err(_) => None,
+    }
 }
 
 fn missing() -> File
@@ -56,13 +62,14 @@ fn missing() -> File
 }
 
 // After a read that failed: a folder opens and cannot be read, and is no file. Any other error is told.
-fn unread(name: &[u8]) -> File
+fn unread(rt: &impl Eprint, name: &str, error: &Error) -> File
     ensures { result.size ≡ 0 }
 {
-    if os::errno() == libc::EISDIR {
+    if error.kind() == ErrorKind::IsADirectory {
         return missing();
     }
-    os::fail(name);
+    // Where even that cannot be written, nobody is left to tell.
+    let _ = eprintln!(rt; "{name}: {error}");
     File {
         failed: true,
         there: false,
@@ -71,43 +78,37 @@ fn unread(name: &[u8]) -> File
 }
 
 // Reads up to the file's end, or until the buffer is full.
-fn fill(fd: i32, name: &[u8], into: &mut [u8]) -> File
+fn fill(rt: &impl Eprint, file: &mut impl std::io::Read, name: &str, into: &mut [u8]) -> File
     ensures { IsPrefixLen result.size into.new }
 {
     let mut size = 0;
     while size < into.len() {
-        let got = libc::read(fd, &mut into[size..]);
-        if got < 0 {
-            return unread(name);
+        match file.read(&mut into[size..]) {
+            Ok(0) => break,
+            Ok(more) => size += more,
+            Err(error) => return unread(rt, name, &error),
         }
-        let more = io::count(got, &into[size..]);
-        if more == 0 {
-            break;
-        }
-        size += more;
     }
     File {
         failed: false,
         there: true,
-        size: size,
+        size,
     }
 }
 
-fn read(folder: &[u8], name: &[u8], into: &mut [u8]) -> File
+fn read(rt: &(impl Files + Eprint), folder: &[u8], name: &str, into: &mut [u8]) -> File
     requires { length name.now ≤ 8 }
     ensures { IsPrefixLen result.size into.new }
 {
-    let fd = open(folder, name);
-    if fd < 0 {
-        return missing();
+    match open(rt, folder, name) {
+        Some(mut file) => fill(rt, &mut file, name, into),
+        None => missing(),
     }
-    let file = fill(fd, name, into);
-    libc::close(fd);
-    file
 }
 
 // Reads the files of the call, those of the library read: `library` says which of them are there.
 fn call(
+    rt: &(impl Files + Eprint),
     folder: &[u8],
     library: There,
     manifest: &[u8],
@@ -118,11 +119,11 @@ fn call(
     ensures { IsPrefixLen result out.new }
 {
     let mut query = buffer();
-    let a = read(folder, b"QUERY", &mut query);
+    let a = read(rt, folder, "QUERY", &mut query);
     let mut call = buffer();
-    let b = read(folder, b"CALL", &mut call);
+    let b = read(rt, folder, "CALL", &mut call);
     let mut place = buffer();
-    let c = read(folder, b"PLACE", &mut place);
+    let c = read(rt, folder, "PLACE", &mut place);
     if a.failed | b.failed | c.failed {
         return 0;
     }
@@ -150,16 +151,16 @@ fn call(
 }
 
 // What the list program prints of the files of a folder: its bytes at the start of `out`, and how many there are. None where reading a
-// file failed: then no list is to be printed.
-pub fn list(folder: &[u8], out: &mut [u8; LISTING_BYTES]) -> usize
+// file failed, which a line on standard error tells: then no list is to be printed.
+pub fn list(rt: &(impl Files + Eprint), folder: &[u8], out: &mut [u8; LISTING_BYTES]) -> usize
     ensures { IsPrefixLen result out.new }
 {
     let mut manifest = buffer();
-    let a = read(folder, b"MANIFEST", &mut manifest);
+    let a = read(rt, folder, "MANIFEST", &mut manifest);
     let mut segments = buffer();
-    let b = read(folder, b"SEGMENTS", &mut segments);
+    let b = read(rt, folder, "SEGMENTS", &mut segments);
     let mut cache = buffer();
-    let c = read(folder, b"CACHE", &mut cache);
+    let c = read(rt, folder, "CACHE", &mut cache);
     if a.failed | b.failed | c.failed {
         return 0;
     }
@@ -175,6 +176,7 @@ pub fn list(folder: &[u8], out: &mut [u8; LISTING_BYTES]) -> usize
     let j = b.size;
     let k = c.size;
     call(
+        rt,
         folder,
         library,
         &manifest[..i],

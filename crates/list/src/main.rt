@@ -2,27 +2,24 @@
 //
 // A file that is missing, cannot be opened or is a folder counts as missing, which `bad input` or `too long` tells. Where reading a file
 // fails, nothing is printed but a message on standard error. The list is handed over in one piece, once all of it is known; where writing
-// fails, a message on standard error says that what was written is not all of it.
+// fails, the program ends with an error, whose message on standard error says that what was written is not all of it. It also ends with an
+// error where an argument is not UTF-8, or memory runs out for the arguments.
 #![tactic(auto)]
 
-fn print(folder: &[u8]) {
+use std::env;
+use std::io::{Error, Result, Write};
+
+fn print(rt: &HostRuntime, folder: &[u8]) -> Result<()> {
     let mut out = listing_text::buffer();
-    let n = files::list(folder, &mut out);
-    if !io::write_all(libc::STDOUT_FILENO, &out[..n]) {
-        os::fail(b"the list is not whole");
-    }
+    let n = files::list(rt, folder, &mut out);
+    rt.stdout()
+        .write_all(&out[..n])
+        .map_err(|e| Error::new(e.kind(), "the list is not whole"))
 }
 
-fn main() {
-    if os::arg_count() < 2 {
-        print(b".");
-        return;
+fn main(rt: HostRuntime) -> Result<()> {
+    match env::args(&rt)?.nth(1) {
+        Some(folder) => print(&rt, folder.as_bytes()),
+        None => print(&rt, b"."),
     }
-    let mut folder = io::buffer();
-    let n = os::arg(1, &mut folder);
-    if os::errno() != 0 {
-        os::fail(b"folder");
-        return;
-    }
-    print(&folder[..n]);
 }

@@ -2,18 +2,19 @@
 // folders hold and how they were made.
 #![tactic(auto)]
 
-fn case(i: usize) {
-    let mut folder = io::buffer();
-    let length = os::arg(i, &mut folder);
+use std::env;
+use std::io::{Result, Write};
+
+fn case(rt: &HostRuntime, folder: &str) -> Result<()> {
     let mut out = listing_text::buffer();
-    let n = files::list(&folder[..length], &mut out);
-    io::write_all(libc::STDOUT_FILENO, &folder[..length]);
-    io::write_all(libc::STDOUT_FILENO, b"\n");
-    io::write_all(libc::STDOUT_FILENO, &out[..n]);
+    let n = files::list(rt, folder.as_bytes(), &mut out);
+    println!(rt; "{folder}")?;
+    rt.stdout().write_all(&out[..n])
 }
 
-fn main() {
-    for i in 1..os::arg_count() {
-        case(i);
+fn main(rt: HostRuntime) -> Result<()> {
+    for folder in env::args(&rt)?.skip(1) {
+        case(&rt, folder.as_str())?;
     }
+    Ok(())
 }
