@@ -7,7 +7,6 @@ use native.Mathlib.Omega.{arith}
 use lib.ListN.{length}
 use Rattle.le.proofs.Chain.{held}
 use Rattle.config.specs.declared.Metric.{Metric}
-use Rattle.codes.specs.Codes.{within}
 use Rattle.quantization.specs.View.{row_at, valid_row}
 use Rattle.format.specs.Fields.{dimensions_of, rows_of}
 use Rattle.config.proofs.Refusals.{not_zero}

@@ -1,6 +1,5 @@
 use mathlib.Core.Path.{sym, ◌∙◌}
 use native.Mathlib.Omega.{arith}
-use Rattle.search_spec.specs.Lent.{given}
 use Rattle.eligible.proofs.Walk.{begun}
 use Rattle.agreement.proofs.Counting.{counting_start, both_long, counting_skip, counting_turn, counting_stop, counting_end}
 use Rattle.agreement.proofs.count.Goals as goal
@@ -23,9 +22,9 @@ loop-row-preserved c =
       omega (arith, c.loop-row-test.true),
       t.next,
       elim c.if-e.branch [
-      then-e+in-Key w ↦ rw w.n-is (counting_turn c.requires.listed l.invariant.2 (omega (arith, c.loop-row-test.true, c.requires.located.0.placed.rows)) (sym t.is ∙ w.if-e.true) (sym w.in-Key.is ∙ w.measure_one-a.ensures) w.ahead-n.ensures)
-    | else-e w ↦ rw w.n-is (counting_skip c.requires.listed l.invariant.2 (sym t.is ∙ w.if-e.false))
-    ],
+        | then-e+in-Key w ↦ rw w.n-is (counting_turn c.requires.listed l.invariant.2 (omega (arith, c.loop-row-test.true, c.requires.located.0.placed.rows)) (sym t.is ∙ w.if-e.true) (sym w.in-Key.is ∙ w.measure_one-a.ensures) w.ahead-n.ensures)
+        | else-e w ↦ rw w.n-is (counting_skip c.requires.listed l.invariant.2 (sym t.is ∙ w.if-e.false))
+      ],
     )
 
 pub returns : goal.returns

@@ -1,7 +1,6 @@
 use mathlib.Core.Path.{◌≡◌}
 use mathlib.Core.Bool.{true}
-use borrow.Author.Tests.{not-true, not-false}
-use Rattle.cache_format.specs.Sizing.{place_ok, options_ok, bounds_number}
+use Rattle.cache_format.specs.Sizing.{place_ok, bounds_number}
 use Rattle.cache_format.proofs.bounds_number.Goals as goal
 
 pub returns-then-not-place_holds : goal.returns-then-not-place_holds

@@ -1,8 +1,6 @@
 use mathlib.Core.Path.{◌≡◌}
 use mathlib.Core.Bool.{true}
-use borrow.Author.Tests.{not-true, not-false}
-use Rattle.cache_format.specs.Cache.{identity}
-use Rattle.cache_format.specs.Open.{cache_head_ok, same_identity, cache_head_number}
+use Rattle.cache_format.specs.Open.{cache_head_ok, cache_head_number}
 use Rattle.cache_format.proofs.Opens.{head-long}
 use Rattle.cache_format.proofs.cache_head_number.Goals as goal
 

@@ -1,6 +1,6 @@
 use mathlib.Core.Path.{◌≡◌}
 use mathlib.Core.Bool.{true}
-use borrow.Author.Tests.{not-true, not-false, le-leb, lt-leb}
+use borrow.Author.Tests.{le-leb, lt-leb}
 use Rattle.cache_format.specs.Sizing.{codes_ok, limits_number}
 use Rattle.cache_format.proofs.limits_number.Goals as goal
 

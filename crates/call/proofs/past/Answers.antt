@@ -195,11 +195,14 @@ ranked-requires c =
     let a = c.args in
     let k = call-5 c in
     let P = c.read_layout-layout.ensures in
-    let f = passed c in record { laid_out = (P, rows_hold c, (rw (length-is-2 c) at c.if-not-length_holds.false), c.if-k-eq0.false, low-limit f); ascending = (
+    let f = passed c in record {
+      laid_out = (P, rows_hold c, (rw (length-is-2 c) at c.if-not-length_holds.false), c.if-k-eq0.false, low-limit f);
+      ascending = (
         sorted_rises c,
         f.query,
         rw P.rows (fits-other k.answers a.keys.now a.candidates.now a.work.now [] (fits-room (rows_of a.m.now) a.k a.limit (handed k.wanted) (room_of k.answers k.work) f.room)),
-      ) }
+      );
+    }
 
 pub read_layout-layout-requires : goal.read_layout-layout-requires
 read_layout-layout-requires c = (same_parts c.args.m.now c.args.kept.head (passed-2 c).same).0

@@ -1,4 +1,3 @@
-use mathlib.Core.Path.{refl}
 use Rattle.eligible.proofs.select.Goals as goal
 
 pub order-requires : goal.order-requires

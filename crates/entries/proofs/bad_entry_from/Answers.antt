@@ -1,6 +1,5 @@
 use borrow.Author.Rules.{rules}
 use mathlib.Core.Path.{refl}
-use borrow.Author.Tests.{not-true, not-false}
 use Rattle.format.proofs.First.{reached_turn, reached_stop, reached_end}
 use Rattle.entries.proofs.bad_entry_from.Goals as goal
 

@@ -1,7 +1,7 @@
-use borrow.Author.Tests.{not-true, not-false, eq-eqb, ne_eqb, le-leb, lt-leb}
+use borrow.Author.Tests.{eq-eqb, ne_eqb, le-leb, lt-leb}
 use Rattle.format.specs.Fields.{rows_of}
 use Rattle.format.specs.Head.{head_number}
-use Rattle.entries.specs.Plan.{rows_ok, crc_ok, plan_number}
+use Rattle.entries.specs.Plan.{plan_number}
 use Rattle.format.proofs.Heads.{bounds}
 use Rattle.entries.proofs.plan.Goals as goal
 

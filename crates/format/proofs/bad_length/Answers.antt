@@ -2,7 +2,6 @@ use borrow.Author.Rules.{rules}
 use mathlib.Core.Bool.{Bool}
 use mathlib.Core.List.{List}
 use Prim.Native.Nat.{ℕ}
-use borrow.Author.Tests.{not-true, not-false}
 use Rattle.config.specs.Limits.{max_segment_bytes}
 use Rattle.utf8.specs.Grammar.{span}
 use Rattle.format.specs.Fields.{segments_of, length_of}

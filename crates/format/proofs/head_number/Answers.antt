@@ -1,9 +1,9 @@
 use native.Mathlib.Omega.{arith}
 use Prim.Native.Nat.{◌+◌, ◌≤◌}
 use lib.ListN.{length}
-use borrow.Author.Tests.{not-true, not-false, le-leb, lt-leb}
+use borrow.Author.Tests.{le-leb, lt-leb}
 use Rattle.format.specs.Fields.{length_of_model}
-use Rattle.format.specs.Head.{opens_ok, kind_ok, identity_ok, counts_ok, head_number}
+use Rattle.format.specs.Head.{head_number}
 use Rattle.format.proofs.Heads.{length_in, model_in}
 use Rattle.format.proofs.head_number.Goals as goal
 

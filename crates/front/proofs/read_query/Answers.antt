@@ -1,4 +1,4 @@
-use Rattle.std.proofs.Common.{◌≡◌, ◌≤◌, ◌*◌, ℕ, List, refl, sym, ap, arith, take, length}
+use Rattle.std.proofs.Common.{◌≡◌, ◌≤◌, ℕ, List, refl, arith, take, length}
 use native.Mathlib.Nat.{mul-le-mul}
 use lib.IntN.{nat_abs}
 use lib.Ieee.{Float}

@@ -88,19 +88,19 @@ write_listing-requires c =
         omega (arith, c.cached-r.auto.rows, c.numbers-rows.ensures),
       );
       numbers = numbers a.state a.cache.now a.manifest.now a.segments.now a.query.now a.k a.limit
-      (answers_of c.numbers-ids.result c.distances-distances.result c.numbers-rows.result c.numbers-starts.result c.lengths-lengths.result)
-      (work_of c.numbers-keys.result c.numbers-candidates.result [])
-      (record {
-        ids = sym c.numbers-ids.ensures;
-        distances = sym c.distances-distances.ensures;
-        rows = sym c.numbers-rows.ensures;
-        starts = sym c.numbers-starts.ensures;
-        lengths = sym c.lengths-lengths.ensures;
-        keys = sym c.numbers-keys.ensures;
-        candidates = sym c.numbers-candidates.ensures;
-        wanted = refl;
-      }) c.cached-r.result c.cached-r.ensures.0 c.if-refusal-ne0.false
-    (answers_of c.cached-r.new.ids c.cached-r.new.distances c.cached-r.new.rows c.cached-r.new.starts c.cached-r.new.lengths) c.cached-r.ensures.1;
+          (answers_of c.numbers-ids.result c.distances-distances.result c.numbers-rows.result c.numbers-starts.result c.lengths-lengths.result)
+          (work_of c.numbers-keys.result c.numbers-candidates.result [])
+          (record {
+            ids = sym c.numbers-ids.ensures;
+            distances = sym c.distances-distances.ensures;
+            rows = sym c.numbers-rows.ensures;
+            starts = sym c.numbers-starts.ensures;
+            lengths = sym c.lengths-lengths.ensures;
+            keys = sym c.numbers-keys.ensures;
+            candidates = sym c.numbers-candidates.ensures;
+            wanted = refl;
+          }) c.cached-r.result c.cached-r.ensures.0 c.if-refusal-ne0.false
+          (answers_of c.cached-r.new.ids c.cached-r.new.distances c.cached-r.new.rows c.cached-r.new.starts c.cached-r.new.lengths) c.cached-r.ensures.1;
     }
 
 pub returns-clause-fact : goal.returns-clause-fact

@@ -18,17 +18,23 @@ pub put_report-at-requires : goal.put_report-at-requires
 unfolding listing
 put_report-at-requires c =
     let a = c.args in
-    omega (arith, simp length-append at (room a.report a.ids.now a.distances.now a.rows.now a.out.now
-    (record { generation = omega arith; sequence = omega arith; eligible = omega arith; measured = omega arith })
-    (λ k. (c.type_inv.ids k).fits) (λ k. (c.type_inv.rows k).fits) c.requires.count_le_most_places))
+    omega (
+      arith,
+      simp length-append at (room a.report a.ids.now a.distances.now a.rows.now a.out.now
+          (record { generation = omega arith; sequence = omega arith; eligible = omega arith; measured = omega arith })
+          (λ k. (c.type_inv.ids k).fits) (λ k. (c.type_inv.rows k).fits) c.requires.count_le_most_places),
+    )
 
 pub put_places-requires-clause-count_in_bounds_2 : goal.put_places-requires-clause-count_in_bounds_2
 unfolding listing
 put_places-requires-clause-count_in_bounds_2 c =
     let a = c.args in
-    omega (arith, simp length-append at (room a.report a.ids.now a.distances.now a.rows.now a.out.now
-    (record { generation = omega arith; sequence = omega arith; eligible = omega arith; measured = omega arith })
-    (λ k. (c.type_inv.ids k).fits) (λ k. (c.type_inv.rows k).fits) c.requires.count_le_most_places))
+    omega (
+      arith,
+      simp length-append at (room a.report a.ids.now a.distances.now a.rows.now a.out.now
+          (record { generation = omega arith; sequence = omega arith; eligible = omega arith; measured = omega arith })
+          (λ k. (c.type_inv.ids k).fits) (λ k. (c.type_inv.rows k).fits) c.requires.count_le_most_places),
+    )
 
 pub returns : goal.returns
 unfolding listing

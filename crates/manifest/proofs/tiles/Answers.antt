@@ -4,13 +4,12 @@ use mathlib.Core.Path.{◌≡◌, sym, ◌∙◌}
 use mathlib.Core.List.{List}
 use mathlib.Core.Bool.{Bool}
 use Prim.Native.Nat.{ℕ, ◌<◌}
-use borrow.Author.Tests.{eq-eqb, ne_eqb, not-true, not-false}
+use borrow.Author.Tests.{eq-eqb, ne_eqb}
 use Rattle.format.specs.Fields.{segments_of, length_of}
 use Rattle.format.specs.Layout.{LaidOut}
 use Rattle.format.specs.declared.Layout.{Layout}
 use Rattle.format.proofs.First.{reached_start, reached_turn, reached_stop, reached_end}
 use Rattle.manifest.specs.Tiling.{covers, in_segment, tiled}
-use Rattle.manifest.specs.Scratch.{run}
 use Rattle.manifest.proofs.Parts.{held_start, Found, found}
 use Rattle.manifest.proofs.tiles.Goals as goal
 

@@ -1,4 +1,4 @@
-use Rattle.std.proofs.Common.{true, refl, ap, ◌∙◌, rules}
+use Rattle.std.proofs.Common.{refl, ap, ◌∙◌, rules}
 use lib.Ieee.{neg, of_bits}
 use Rattle.math.specs.Distance.{inverse}
 use Rattle.math.proofs.Folds.{kept-start, kept_turn, kept_done}

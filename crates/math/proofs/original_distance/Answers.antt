@@ -1,5 +1,5 @@
 use Rattle.config.proofs.Coordinates.{in_floats, past_floats}
-use Rattle.std.proofs.Common.{true, length, refl, ◌∙◌, rules}
+use Rattle.std.proofs.Common.{length, refl, ◌∙◌, rules}
 use lib.Ieee.{neg, of_bits}
 use Rattle.config.specs.Vector.{floats_at}
 use Rattle.math.proofs.Folds.{kept-start, kept_turn, kept_done, is-original}

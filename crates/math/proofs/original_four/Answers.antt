@@ -1,4 +1,4 @@
-use Rattle.std.proofs.Common.{true, length, refl, ◌∙◌, rules}
+use Rattle.std.proofs.Common.{length, refl, ◌∙◌, rules}
 use lib.Ieee.{neg, of_bits}
 use Rattle.float.proofs.Quads.{four-alike}
 use Rattle.math.proofs.Fours.{fours_start, fours_turn, are_originals, picked, same-picked}

@@ -2,7 +2,6 @@ use borrow.Author.Rules.{rules}
 use native.Mathlib.Omega.{arith}
 use mathlib.Core.Path.{◌≡◌, ◌∙◌}
 use lib.ListN.{length}
-use borrow.Author.Tests.{not-true, not-false}
 use Rattle.format.proofs.First.{reached_start, reached_turn, reached_stop, reached_end}
 use Rattle.quantized_cache.specs.Open.{cached_ok}
 use Rattle.quantized_cache.proofs.Opens.{Lies, lies, ok_at}

@@ -210,13 +210,16 @@ write-requires c =
     let f = few-2 c in
     let e = p.0.rows in
     let x = front_length c.lesser-count.result c.find-found.new.ks (drop c.lesser-n.result c.args.keys.now) h.0 in
-    let y = front_length c.lesser-count.result c.find-found.new.rs (drop c.lesser-n.result c.args.candidates.now) h.1 in record { laid_out = (p.0, p.1, c.starts-starts.ensures, x ∙ sym y, shown-below p.4 F c.if-refusal-ne0.false [] _ n h.0 h.1 e); listed_in_bounds = (
+    let y = front_length c.lesser-count.result c.find-found.new.rs (drop c.lesser-n.result c.args.candidates.now) h.1 in record {
+      laid_out = (p.0, p.1, c.starts-starts.ensures, x ∙ sym y, shown-below p.4 F c.if-refusal-ne0.false [] _ n h.0 h.1 e);
+      listed_in_bounds = (
         omega (arith, y, n, f, e, g.ids),
         omega (arith, y, n, f, e, g.distances),
         omega (arith, y, n, f, e, g.rows),
         omega (arith, y, n, f, e, g.starts),
         omega (arith, y, n, f, e, g.lengths),
-      ) }
+      );
+    }
 
 pub find-found-requires : goal.find-found-requires
 find-found-requires c =

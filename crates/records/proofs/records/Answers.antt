@@ -1,7 +1,5 @@
-use Rattle.std.proofs.Common.{◌≡◌, ◌+◌, ◌<◌, ◌≤◌, length, sym, ap, ◌∙◌, arith, List}
-use lib.ListN.{set}
-use Rattle.records.specs.declared.Record.{Record}
-use Rattle.records.proofs.Lists.{upto, upto-none, upto_next, counts, ends}
+use Rattle.std.proofs.Common.{◌≡◌, ◌<◌, ◌≤◌, length, sym, ◌∙◌, arith}
+use Rattle.records.proofs.Lists.{upto-none, upto_next, counts, ends}
 use Rattle.records.proofs.records.Goals as goal
 
 pub loop-i-init : goal.loop-i-init
@@ -13,8 +11,7 @@ loop-i-preserved c =
     let i = c.loop-i.i in
     let plan = c.planned-plan.result in
     let room : plan.count ≤ length a.out.now = rw c.planned-plan.ensures (counts a.count (length a.ids.now) (length a.distances.now) (length a.rows.now) (length a.out.now)).3 in
-    let here : i < length a.out.now = omega (arith, room, c.loop-i-test.true) in
-    (
+    let here : i < length a.out.now = omega (arith, room, c.loop-i-test.true) in (
       omega (arith, c.loop-i-test.true),
       rw (c.loop-i.invariant.1, c.record_at.ensures) (upto_next a.ids.now a.distances.now a.rows.now a.out.now i here),
     )

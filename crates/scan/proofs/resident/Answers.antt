@@ -96,16 +96,16 @@ loop-row-preserved c =
     let cursor = cursor_went W c.row_step-e.ensures.next in
     let more = count_went W L.invariant.4 in
     elim c.match-said.branch [
-      in-Distance w ↦
+      | in-Distance w ↦
           let K = w.keep-h in (
             low,
             cursor,
             rw (w.ks-is, w.rs-is, w.count-is, w.top-is)
-            (keeps S W.low (W.said.measured w.in-Distance.is) K.new.ks K.new.rs K.result K.ensures K.auto.ks K.auto.rs (search rules)),
+                (keeps S W.low (W.said.measured w.in-Distance.is) K.new.ks K.new.rs K.result K.ensures K.auto.ks K.auto.rs (search rules)),
             rw (w.top-is, w.t-is) (limits_held _ c.requires.norm_bound.0 w.far_bound-t.ensures),
             more,
           )
-    | in-PassedOver w ↦
+      | in-PassedOver w ↦
           (low, cursor, rw (w.ks-is, w.rs-is, w.count-is, w.top-is) (skips S W.low (W.said.passed w.in-PassedOver.is)), rw (w.top-is, w.t-is) L.invariant.3, more)
     ]
 

@@ -4,7 +4,6 @@ use mathlib.Core.Bool.{Bool}
 use mathlib.Core.List.{List, map}
 use Prim.Native.Nat.{ℕ, ◌<◌}
 use lib.ListN.{length, get_or, length-map}
-use borrow.Author.Tests.{not-true, not-false}
 use Rattle.format.proofs.First.{reached_start, reached_turn, reached_stop, reached_end}
 use Rattle.entries.proofs.Entries.{lengths_of, entry_keeps}
 use Rattle.manifest.specs.Scratch.{key_row}

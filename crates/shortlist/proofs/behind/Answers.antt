@@ -1,24 +1,23 @@
 use native.Mathlib.Omega.{arith}
 use mathlib.Core.Path.{◌≡◌}
-use Prim.Native.Nat.{min, ◌≤◌}
-use lib.ListN.{length, length-take}
-use Rattle.shortlist.proofs.Counted.{rows_in, most, listed, plain, plain-refused, counted, not_counted}
+use Prim.Native.Nat.{min}
+use Rattle.shortlist.proofs.Counted.{rows_in, listed, plain, plain-refused, counted, not_counted}
 use Rattle.shortlist.proofs.behind.Goals as goal
 use Rattle.shortlist.proofs.behind.Goals.{else-k-n, then-k-n}
 
 -- how many are listed
 first-are : (c : goal.Joined-k-n) → c.if-k-n.n ≡ min c.args.k c.rerank-r.result.measured
 first-are c = elim c.if-k-n.branch [
-      then-k-n w ↦ omega (arith, w.if-k-n.true, w.n-is)
-    | else-k-n w ↦ omega (arith, w.if-k-n.false, w.n-is)
-    ]
+  | then-k-n w ↦ omega (arith, w.if-k-n.true, w.n-is)
+  | else-k-n w ↦ omega (arith, w.if-k-n.false, w.n-is)
+]
 
 -- how many are listed
 first-are-2 : (c : goal.Then-refusal-eq0) → c.if-k-n.n ≡ min c.args.k c.rerank-r.result.measured
 first-are-2 c = elim c.if-k-n.branch [
-      then-k-n w ↦ omega (arith, w.if-k-n.true, w.n-is)
-    | else-k-n w ↦ omega (arith, w.if-k-n.false, w.n-is)
-    ]
+  | then-k-n w ↦ omega (arith, w.if-k-n.true, w.n-is)
+  | else-k-n w ↦ omega (arith, w.if-k-n.false, w.n-is)
+]
 
 -- they stand in both slices
 pub rerank-r-requires : goal.rerank-r-requires
