@@ -21,7 +21,7 @@ use Rattle.search_spec.specs.Scan.{record_refusal}
 use Rattle.search_spec.proofs.Prefix.{Part, Agrees}
 use Rattle.rerank.specs.Rerank.{key_at, measure_at}
 use Rattle.rerank.specs.declared.Measure.TheVariants.{Key, Refused}
-use Rattle.rerank.proofs.Records.{key_of, refusal_of_lem}
+use Rattle.rerank.proofs.Records.{key_of_lem, refusal_of_lem}
 use Rattle.agreement.specs.Count.{key_not_after, AheadIs, Listed, CountIs, all_ranked}
 use Rattle.agreement.proofs.Places.{agrees_start, agrees_turn, agrees-all}
 use Rattle.agreement.proofs.Records.{RecordsTo, records-start, records_skip, records_turn, records-stop, records-end}
@@ -57,7 +57,7 @@ module _ {m s : List ℕ} {q : List Float} {ok : ℕ → Bool} {ks rs : List ℕ
 
     pub counting_turn : {k r : ℕ} → row < rows_of m → ok row ≡ true → Key k ≡ measure_at m s q row → AheadIs (key_not_after ks rs k row) rs n row r → Counting m s q ok rs (row + 1) r
     counting_turn {k} {r} h e y H =
-        let t = key_of (record_refusal m s q row) (key_at m s q row) y in
+        let t = key_of_lem (record_refusal m s q row) (key_at m s q row) y in
         record {
           records = records_turn m s q ok C.records h e t.0;
           agrees = rw (passing-more ok row e) (agrees_turn (key_at m s q) ks rs L.keys L.up C.agrees row (rw t.1 at H));

@@ -581,7 +581,6 @@ pub extern "C" fn pv_distance_four(
 
 // ---- Kept rows as a slice of records. The one refusal's place is 0.
 
-// Proved by hand, as its callee is: no function that is lent a slice of structs is covered.
 #[unsafe(no_mangle)]
 pub extern "C" fn pv_records(
     ids: &[u64],

@@ -21,9 +21,9 @@ use Rattle.entries.proofs.Entries.{entered}
 use Rattle.manifest.specs.Tiling.{position, physical}
 use Rattle.manifest.specs.Scratch.{key, key_segment, key_row, ordered, row_keys}
 
-pub row_of : (m : List ℕ) (r : ℕ) → r < 1048576 → key_row (key m r) ≡ r
+pub row_of_lem : (m : List ℕ) (r : ℕ) → r < 1048576 → key_row (key m r) ≡ r
 unfolding key key_row
-row_of m r h = omega arith
+row_of_lem m r h = omega arith
 
 pub segment_of : (m : List ℕ) (r : ℕ) → r < 1048576 → offset_at m r < 67108864 → key_segment (key m r) ≡ segment_at m r
 unfolding key key_segment

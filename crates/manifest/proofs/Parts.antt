@@ -21,7 +21,7 @@ use Rattle.format.specs.Fields.{rows_of, segment_at, offset_at}
 use Rattle.entries.specs.Plan.{rows_ok}
 use Rattle.manifest.specs.Tiling.{position, physical, in_segment}
 use Rattle.manifest.specs.Scratch.{key, key_segment, key_row, run, Below, row_keys}
-use Rattle.manifest.proofs.Keys.{segment_of, row_of, small, near, in_rows}
+use Rattle.manifest.proofs.Keys.{segment_of, row_of_lem, small, near, in_rows}
 
 -- ---- what is kept of a list: the elements that pass
 abbrev pub keep : (ℕ → Bool) → List ℕ → List ℕ
@@ -192,7 +192,7 @@ module _ (m : List ℕ) where
 
     rows_back : (l : List ℕ) → ((r : ℕ) → r ∈ l → r < rows_of m) → map key_row (map (key m) l) ≡ l
     rows_back [] h = refl
-    rows_back (r ∷ rs) h = rw (row_of m r (small m ok few (h r (inl refl))), rows_back rs (λ z i. h z (inr i)))
+    rows_back (r ∷ rs) h = rw (row_of_lem m r (small m ok few (h r (inl refl))), rows_back rs (λ z i. h z (inr i)))
 
     below_of : (ks l : List ℕ) → map key_row ks ≡ l → ((r : ℕ) → r ∈ l → r < rows_of m) → Below (rows_of m) ks
     below_of ks l e h =

@@ -1,4 +1,4 @@
-// Kept rows as a slice of records, after a search. A crate of its own because `records` is proved by hand: no caller of it in Rattle is covered.
+// Kept rows as a slice of records, after a search.
 #![tactic(auto)]
 
 ghost use Rattle.std.specs.Prelude.{◌≡◌, ◌<◌, length};
@@ -61,7 +61,7 @@ fn record_at(ids: &[u64], distances: &[f64], rows: &[u64], i: usize) -> Record
     }
 }
 
-// The first `count` places of an answer, copied into `out`. No branch here, so the proof by hand has one way out.
+// The first `count` places of an answer, copied into `out`.
 pub fn records(
     ids: &[u64],
     distances: &[f64],

@@ -20,7 +20,7 @@ use Rattle.segment.specs.Record.{record_ok}
 use Rattle.search_spec.specs.Scan.{record_refusal}
 use Rattle.rerank.specs.Rerank.{all_four, all_finite, keys_set, key_at, originals, measure_at, KeysTo, FourIs, MeasureIs}
 use Rattle.rerank.specs.declared.Measure.TheVariants.{Key, Refused}
-use Rattle.rerank.proofs.Records.{record_none, four-records, four-finites, key_of, refusal_of_lem}
+use Rattle.rerank.proofs.Records.{record_none, four-records, four-finites, key_of_lem, refusal_of_lem}
 
 module _ (m s : List ℕ) (q : List Float) (rows : List ℕ) where
   pub keys_none : (ks : List ℕ) → KeysTo m s q rows 0 ks
@@ -67,7 +67,7 @@ module _ (m s : List ℕ) (q : List Float) (rows : List ℕ) where
   module _ {i : ℕ} {ks : List ℕ} (K : KeysTo m s q rows i ks) where
     -- row i is measured,
     pub measures : {k : ℕ} → i < length rows → i < length ks → Key k ≡ measure_at m s q (get_or rows i 0) → KeysTo m s q rows (i + 1) (set ks i k)
-    measures h l e = let t = key_of (refusal_at i) (key_at m s q (get_or rows i 0)) e in keys-more refl h l t.0 t.1 K
+    measures h l e = let t = key_of_lem (refusal_at i) (key_at m s q (get_or rows i 0)) e in keys-more refl h l t.0 t.1 K
 
     -- or is refused,
     pub refuses : {f : Refusal} (b : List ℕ) → i < length rows → Refused f ≡ measure_at m s q (get_or rows i 0) → MeasureIs m s q rows (record { refusal = f; measured = 0 }) b

@@ -87,9 +87,9 @@ four_numbers x h =
     (number (get_or x 0 nan) a.0, number (get_or x 1 nan) a.1, number (get_or x 2 nan) a.2, number (get_or x 3 nan) a.3)
 
 -- by the case that is found
-pub key_of : (g : Refusal) (k : ℕ) {l : ℕ} → Key l ≡ measure_of g k → (g.number ≡ 0) × (l ≡ k)
+pub key_of_lem : (g : Refusal) (k : ℕ) {l : ℕ} → Key l ≡ measure_of g k → (g.number ≡ 0) × (l ≡ k)
 unfolding measure_of
-key_of g k {l} e =
+key_of_lem g k {l} e =
     by (eqb g.number 0) (λ t. let h : Key l ≡ Key k = rw t at e in (eqb-true g.number 0 t, cc))
     (λ t. let h : Key l ≡ Refused g = rw t at e in let z : ◌≡◌ {A = ℕ} 0 1 = cc in absurd (omega arith))
 

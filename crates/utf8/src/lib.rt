@@ -2,8 +2,8 @@
 #![tactic(auto)]
 
 ghost use Rattle.std.specs.Prelude.{◌≡◌, ◌<◌, ◌≤◌, length, drop};
-ghost use Rattle.utf8.specs.Grammar.{one as is_one, two as is-two, three as is-three, four as is-four, tail as is-tail, span as in_span};
-ghost use Rattle.utf8.specs.Utf8.{valid as is-valid, width as width_of_lem, width₁, width₂, width₃};
+ghost use Rattle.utf8.specs.Grammar.{one as is_one, two as is_two, three as is_three, four as is_four, tail as is_tail, span as in_span};
+ghost use Rattle.utf8.specs.Utf8.{valid as is_valid, width as width_of, width₁, width₂, width₃};
 
 fn span(lo: u8, hi: u8, x: u8) -> bool
     ensures { result ≡ in_span lo hi x }
@@ -12,7 +12,7 @@ fn span(lo: u8, hi: u8, x: u8) -> bool
 }
 
 fn tail(x: u8) -> bool
-    ensures { result ≡ is-tail x }
+    ensures { result ≡ is_tail x }
 {
     span(0x80, 0xbf, x)
 }
@@ -24,13 +24,13 @@ fn one(a: u8) -> bool
 }
 
 fn two(a: u8, b: u8) -> bool
-    ensures { result ≡ is-two a b }
+    ensures { result ≡ is_two a b }
 {
     span(0xc2, 0xdf, a) & tail(b)
 }
 
 fn three(a: u8, b: u8, c: u8) -> bool
-    ensures { result ≡ is-three a b c }
+    ensures { result ≡ is_three a b c }
 {
     (span(0xe0, 0xe0, a) & span(0xa0, 0xbf, b)
         | span(0xe1, 0xec, a) & tail(b)
@@ -40,7 +40,7 @@ fn three(a: u8, b: u8, c: u8) -> bool
 }
 
 fn four(a: u8, b: u8, c: u8, d: u8) -> bool
-    ensures { result ≡ is-four a b c d }
+    ensures { result ≡ is_four a b c d }
 {
     (span(0xf0, 0xf0, a) & span(0x90, 0xbf, b)
         | span(0xf1, 0xf3, a) & tail(b)
@@ -94,7 +94,7 @@ fn after_one(s: &[u8], i: usize, a: u8) -> usize
 // The length of the character at i, or 0 where none stands there.
 fn width(s: &[u8], i: usize) -> usize
     requires { i < length s.now }
-    ensures { result ≡ width_of_lem (drop i s.now) }
+    ensures { result ≡ width_of (drop i s.now) }
 {
     let a = s[i];
     if one(a) {
@@ -105,7 +105,7 @@ fn width(s: &[u8], i: usize) -> usize
 
 // Whether s is UTF-8. A part of a slice is lent as such.
 pub fn valid(s: &[u8]) -> bool
-    ensures { result ≡ is-valid s.now }
+    ensures { result ≡ is_valid s.now }
 {
     let mut i = 0;
     while i < s.len() {

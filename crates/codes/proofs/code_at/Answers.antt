@@ -7,7 +7,7 @@ use mir.Syntax.{w32}
 use mir.Val.{to_z}
 use mir.Facts.{to_z-of_z, sfits_widen}
 use Rattle.codes.specs.Codes.{signed}
-use Rattle.codes.proofs.Numbers.{small, byte_code, signed-fits, code_of}
+use Rattle.codes.proofs.Numbers.{small, byte_code, signed-fits, code_of_lem}
 use Rattle.codes.proofs.code_at.Goals as goal
 
 abbrev byte : goal.After-shared_slice_known-1 → ℕ
@@ -31,4 +31,4 @@ pub overflow_cast-result-3 : goal.overflow_cast-result-3
 overflow_cast-result-3 c = rw (to_z-of_z (overflow_sub-result c), less c) (signed-fits (byte c))
 
 pub returns : goal.returns
-returns c = rw (to_z-of_z (overflow_cast-result-3 c), to_z-of_z (overflow_sub-result c), less c, code_of c.args.c.now c.args.p)
+returns c = rw (to_z-of_z (overflow_cast-result-3 c), to_z-of_z (overflow_sub-result c), less c, code_of_lem c.args.c.now c.args.p)
