@@ -9,16 +9,17 @@ ghost use Rattle.api_state.specs.Fits.{Fit, StateFits};
 use config::Config;
 use format::Head;
 
+// The head and the two states have a pair of functions each: one call of `put_state` and of `head_at`, with the state's own numbers. A trait
+// with three impls would say each of them again, and the lengths too.
+
 // ---- Writing. What is written is read back as the state, of every state that a program can hold.
 
 fn put_words(out: &mut [u8], at: usize, v: &[u64])
     requires { at + 8 * length v.now ≤ length out.old }
     ensures { (out.new ≡ paste out.old at (words v.now)) × Fit v.now }
 {
-    let mut i = 0;
-    while i < v.len() {
-        le::put_u64(out, at + 8 * i, v[i]);
-        i += 1;
+    for (i, x) in v.iter().enumerate() {
+        le::put_u64(out, at + 8 * i, *x);
     }
 }
 
@@ -65,22 +66,23 @@ fn put_state(out: &mut [u8], h: Head, own: &[u64])
 pub fn put_head(h: Head, out: &mut [u8; 600])
     ensures { (out.new ≡ head_bytes h) × (head_in (head_bytes h) ≡ h) }
 {
-    let none = [0u64; 1];
-    put_state(out, h, &none[..0]);
+    put_state(out, h, &[]);
 }
 
 pub fn put_cache(s: quantized_cache::CacheState, out: &mut [u8; 608])
     ensures { (out.new ≡ bytes_of_cache s) × (cache_in (bytes_of_cache s) ≡ s) }
 {
-    let own = [s.cache as u64];
-    put_state(out, s.head, &own);
+    put_state(out, s.head, &[s.cache as u64]);
 }
 
 pub fn put_resident(s: resident::ResidentState, out: &mut [u8; 624])
     ensures { (out.new ≡ resident_bytes s) × (resident_in (resident_bytes s) ≡ s) }
 {
-    let own = [s.codes as u64, s.scales as u64, s.norms as u64];
-    put_state(out, s.head, &own);
+    put_state(
+        out,
+        s.head,
+        &[s.codes as u64, s.scales as u64, s.norms as u64],
+    );
 }
 
 // ---- Reading.

@@ -14,6 +14,8 @@ ghost use Rattle.math.specs.Distance.{Readable, inverse_norm, original};
 ghost use Rattle.math.specs.Four.{original_four};
 
 use config::Metric;
+use crc32::Table;
+use quantization::Encoder;
 
 // ---- CRC-32 and the square root.
 
@@ -22,8 +24,7 @@ use config::Metric;
 pub extern "C" fn pv_crc32_bytes(s: &[u8]) -> u32
     ensures { result ≡ checksum s.now }
 {
-    let t = crc32::table();
-    crc32::finish(crc32::update_bytes(&t, crc32::START, s))
+    crc32::finish(Table::new().update(crc32::START, s))
 }
 
 // Eight bytes at a time.
@@ -51,9 +52,9 @@ pub extern "C" fn pv_row_sums(c: &[u8], at: usize, q: &[i16], out: &mut [u32]) -
     ensures out_after { get_or out.new 0 0 ≡ squares (part (length q.now) (codes c.now) at) }
     ensures out_after_2 { get_or out.new 1 0 ≡ cond (within base_levels (part (length q.now) (codes c.now) at)) 1 0 }
 {
-    let t = codes::row_sums(quantization::BASE_LEVELS as u8, c, at, q);
-    out[0] = t.squares;
-    out[1] = t.whole as u32;
+    let t = codes::row_sums(quantization::BASE_LEVELS as u8, &c[at..at + q.len()], q);
+    out[0] = t.check.squares;
+    out[1] = t.check.whole as u32;
     t.dot
 }
 
@@ -65,9 +66,9 @@ pub extern "C" fn pv_row_sums_resident(c: &[i8], at: usize, q: &[i16], out: &mut
     ensures out_after { get_or out.new 0 0 ≡ squares (part (length q.now) c.now at) }
     ensures out_after_2 { get_or out.new 1 0 ≡ cond (within base_levels (part (length q.now) c.now at)) 1 0 }
 {
-    let t = codes::row_sums_resident(quantization::BASE_LEVELS as u8, c, at, q);
-    out[0] = t.squares;
-    out[1] = t.whole as u32;
+    let t = codes::row_sums(quantization::BASE_LEVELS as u8, &c[at..at + q.len()], q);
+    out[0] = t.check.squares;
+    out[1] = t.check.whole as u32;
     t.dot
 }
 
@@ -77,7 +78,7 @@ pub extern "C" fn pv_row_check(c: &[u8], at: usize, n: usize, out: &mut [u32])
     ensures out_after { get_or out.new 0 0 ≡ squares (part n (codes c.now) at) }
     ensures out_after_2 { get_or out.new 1 0 ≡ cond (within base_levels (part n (codes c.now) at)) 1 0 }
 {
-    let t = codes::row_check(quantization::BASE_LEVELS as u8, c, at, n);
+    let t = codes::row_check(quantization::BASE_LEVELS as u8, &c[at..at + n]);
     out[0] = t.squares;
     out[1] = t.whole as u32;
 }
@@ -88,7 +89,7 @@ pub extern "C" fn pv_row_check_resident(c: &[i8], at: usize, n: usize, out: &mut
     ensures out_after { get_or out.new 0 0 ≡ squares (part n c.now at) }
     ensures out_after_2 { get_or out.new 1 0 ≡ cond (within base_levels (part n c.now at)) 1 0 }
 {
-    let t = codes::row_check_resident(quantization::BASE_LEVELS as u8, c, at, n);
+    let t = codes::row_check(quantization::BASE_LEVELS as u8, &c[at..at + n]);
     out[0] = t.squares;
     out[1] = t.whole as u32;
 }
@@ -116,9 +117,8 @@ pub extern "C" fn pv_encode_row(
     ensures { let e = encode base_levels midpoints (floats_at (length out.old - 16) s.now at) in (out.new ≡ row_bytes e)
         × (result ≡ e.scale) × (norm.new ≡ e.norm) }
 {
-    let r = quantization::encode_row(t, quantization::BASE_LEVELS, s, at, out);
-    let n = r.norm;
-    *norm = n;
+    let r = Encoder::new(t, quantization::BASE_LEVELS).encode_row(s, at, out);
+    *norm = r.norm;
     r.scale
 }
 
@@ -136,9 +136,8 @@ pub extern "C" fn pv_encode_resident(
     ensures { let e = encode base_levels midpoints (floats_at (length out.old) s.now at) in (out.new ≡ e.codes)
         × (result ≡ e.scale) × (norm.new ≡ e.norm) }
 {
-    let r = quantization::encode_resident(t, quantization::BASE_LEVELS, s, at, out);
-    let n = r.norm;
-    *norm = n;
+    let r = Encoder::new(t, quantization::BASE_LEVELS).encode_resident(s, at, out);
+    *norm = r.norm;
     r.scale
 }
 
@@ -150,9 +149,8 @@ pub extern "C" fn pv_encode_query(t: &[f64; 127], v: &[f32], out: &mut [i16], no
     ensures { let e = encode base_levels midpoints v.now in (out.new ≡ e.codes ++ drop (length v.now) out.old)
         × (result ≡ e.scale) × (norm.new ≡ e.norm) }
 {
-    let r = quantization::encode_query(t, quantization::BASE_LEVELS, v, out);
-    let n = r.norm;
-    *norm = n;
+    let r = Encoder::new(t, quantization::BASE_LEVELS).encode_query(v, out);
+    *norm = r.norm;
     r.scale
 }
 

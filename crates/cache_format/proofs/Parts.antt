@@ -88,7 +88,6 @@ head_stored d version i between h = paste-next d 0 cache_magic (head_rest versio
 -- one part after the other
 same-append : (a b x : List ℕ) (k : ℕ) → length a ≤ length x
     → same_bytes (take (length a + k) x) (a ++ b) ≡ (same_bytes (take (length a) x) a && same_bytes (take k (drop (length a) x)) b)
-unfolding same_bytes
 same-append [] b x k h = rw (zero-add k)
 same-append (y ∷ a) b [] k h = absurd (omega arith)
 same-append (y ∷ a) b (z ∷ x) k h =

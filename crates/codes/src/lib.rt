@@ -9,28 +9,87 @@
 // function adds to the sums so far, so that its contract speaks of the row up to a place; all of them are inlined.
 // The part that a short row begins with is widened by its bytes (`widened`). LLVM's own sign extension unpacks into whatever a register
 // holds, and where that is the distance of the row before, each row waits for the one before it.
-// LLVM vectorises a sum only if one place uses it. So no turn may be implied by another one's not having run (`row_sums` has its odd
-// turn of 32 before those of 64), and a turn has one caller. The order of the structs' fields, and of the operations on them, matters
-// too: measure each change, with the levels a literal and not.
+// A turn is two turns of half the size, and no loop over its parts: with one, under a const parameter, LLVM does not unroll the turn,
+// and rows from 100 codes on took 1.7 to 2.9 times as long.
+// LLVM vectorises a sum only if one place uses it. So no turn may be implied by another one's not having run (`Pair::sums` has its odd
+// turn of 32 before those of 64). The order of the operations on the sums matters too: measure each change, with the levels a literal
+// and not.
 #![tactic(auto)]
 
-ghost use Rattle.std.specs.Prelude.{◌≡◌, ◌+◌, ◌-◌, ◌*◌, ◌≤◌, ◌<◌, nat_abs, pos, ◌*ℤ◌, length, get_or, leb};
-ghost use Rattle.codes.specs.Codes.{codes, part, Small, RowSums, RowCheck};
+ghost use Rattle.std.specs.Prelude.{refl, List, ℕ, ℤ, ◌≡◌, ◌+◌, ◌-◌, ◌*◌, ◌≤◌, ◌<◌, nat_abs, pos, ◌*ℤ◌, length, get_or, leb};
+ghost use Rattle.std.proofs.lemmas.List.{get_or_default, get_or-map, length-map};
+ghost use Rattle.codes.specs.Codes.{signed, codes, part, Small, RowSums, RowCheck};
 ghost use Rattle.codes.specs.Sums.{masked_at, Checked, Summed, CodeAdded, CodeChecked, SumsAdded, ChecksAdded};
 
-// Of a row, or a part of one: the dot product, the sum of the squared codes, whether every code is within the levels.
-#[derive(Clone, Copy)]
-pub struct Sums {
-    pub dot: i32,
-    pub squares: u32,
-    pub whole: bool,
-}
-
-// The same without the dot product.
+// Of a row, or a part of one: the sum of the squared codes, and whether every code is within the levels.
 #[derive(Clone, Copy)]
 pub struct Check {
     pub squares: u32,
     pub whole: bool,
+}
+
+// The same, and the dot product.
+#[derive(Clone, Copy)]
+pub struct Sums {
+    pub dot: i32,
+    pub check: Check,
+}
+
+// Of no code.
+pub const NO_CHECK: Check = Check {
+    squares: 0,
+    whole: true,
+};
+
+pub const NO_SUMS: Sums = Sums {
+    dot: 0,
+    check: NO_CHECK,
+};
+
+// ---- a code
+
+// A code as a row holds it: a byte in two's complement (cached), or a signed number (resident).
+pub trait Code: Copy {
+    // the number that it is, and those that a row of them holds
+    ghost code_of: { Self → ℤ };
+
+    ghost codes_of: { List Self → List ℤ };
+
+    fn value(self) -> i8
+        ensures { result ≡ code_of self };
+
+    // a row holds the number of each of its codes
+    ghost as_many: { (l : List Self) → length (codes_of l) ≡ length l };
+
+    ghost each: { (l : List Self) (p : ℕ) (x : Self) → p < length l → get_or (codes_of l) p (pos 0) ≡ code_of (get_or l p x) };
+}
+
+impl Code for u8 {
+    ghost code_of = { signed };
+
+    ghost codes_of = { codes };
+
+    fn value(self) -> i8 {
+        self.cast_signed()
+    }
+
+    ghost as_many = { λ l. length-map l signed };
+
+    ghost each = { λ l p x h. get_or-map signed l p x (pos 0) h };
+}
+
+impl Code for i8 {
+    ghost code_of = { λ x. x };
+
+    ghost codes_of = { λ l. l };
+
+    fn value(self) -> i8 {
+        self
+    }
+
+    ghost as_many = { λ l. refl };
+
+    ghost each = { λ l p x h. get_or_default l p (pos 0) x h };
 }
 
 // ---- one code
@@ -77,56 +136,46 @@ fn masked(x: i8, j: usize, k: u8) -> i8
 
 // ---- a code more, and the sums of two parts
 
+fn add_code_check(levels: u8, s: Check, x: i8) -> Check
+    requires { (s.squares ≤ 1073741824) × (levels ≤ 127) }
+    ensures { CodeChecked levels x s result }
+{
+    Check {
+        squares: s.squares + square(x),
+        whole: s.whole & within(levels, x),
+    }
+}
+
 fn add_code(levels: u8, s: Sums, x: i8, y: i16) -> Sums
     requires y_bound { nat_abs y ≤ 128 }
-    requires dot_bound { (nat_abs s.dot ≤ 1073741824) × (s.squares ≤ 1073741824) × (levels ≤ 127) }
+    requires dot_bound { (nat_abs s.dot ≤ 1073741824) × (s.check.squares ≤ 1073741824) × (levels ≤ 127) }
     ensures { CodeAdded levels x y s result }
 {
     Sums {
-        whole: s.whole & within(levels, x),
         dot: s.dot + product(x, y),
-        squares: s.squares + square(x),
+        check: add_code_check(levels, s.check, x),
     }
 }
 
 // The same for the part that a row begins with.
 fn add_first_code(levels: u8, s: Sums, x: i8, y: i16) -> Sums
     requires y_bound { nat_abs y ≤ 128 }
-    requires dot_bound { (nat_abs s.dot ≤ 1073741824) × (s.squares ≤ 1073741824) × (levels ≤ 127) }
+    requires dot_bound { (nat_abs s.dot ≤ 1073741824) × (s.check.squares ≤ 1073741824) × (levels ≤ 127) }
     ensures { CodeAdded levels x y s result }
 {
     let z = widened(x) as i32;
     Sums {
-        whole: s.whole & within(levels, x),
         dot: s.dot + z * (y as i32),
-        squares: s.squares + (z * z) as u32,
-    }
-}
-
-fn add_code_check(levels: u8, s: Check, x: i8) -> Check
-    requires { (s.squares ≤ 1073741824) × (levels ≤ 127) }
-    ensures { CodeChecked levels x s.squares result.squares s.whole result.whole }
-{
-    Check {
-        squares: s.squares + square(x),
-        whole: s.whole & within(levels, x),
-    }
-}
-
-fn add_sums(a: Sums, b: Sums) -> Sums
-    requires { (nat_abs a.dot + nat_abs b.dot ≤ 1073741824) × (a.squares + b.squares ≤ 1073741824) }
-    ensures { SumsAdded a b result }
-{
-    Sums {
-        whole: a.whole & b.whole,
-        dot: a.dot + b.dot,
-        squares: a.squares + b.squares,
+        check: Check {
+            squares: s.check.squares + (z * z) as u32,
+            whole: s.check.whole & within(levels, x),
+        },
     }
 }
 
 fn add_checks(a: Check, b: Check) -> Check
     requires { a.squares + b.squares ≤ 1073741824 }
-    ensures { ChecksAdded a.squares b.squares result.squares a.whole b.whole result.whole }
+    ensures { ChecksAdded a b result }
 {
     Check {
         squares: a.squares + b.squares,
@@ -134,573 +183,280 @@ fn add_checks(a: Check, b: Check) -> Check
     }
 }
 
-// ---- a cached row
-
-fn code_at(c: &[u8], p: usize) -> i8
-    requires { p < length c.now }
-    ensures { result ≡ get_or (codes c.now) p (pos 0) }
+fn add_sums(a: Sums, b: Sums) -> Sums
+    requires { (nat_abs a.dot + nat_abs b.dot ≤ 1073741824) × (a.check.squares + b.check.squares ≤ 1073741824) }
+    ensures { SumsAdded a b result }
 {
-    (((c[p] as u32 + 128) % 256) as i32 - 128) as i8
-}
-
-// The sums of the row's first n codes.
-fn sums_first(levels: u8, c: &[u8], at: usize, q: &[i16], n: usize) -> Sums
-    requires q_in_bounds { (at + length q.now ≤ length c.now) × (length q.now ≤ 65536) × (levels ≤ 127) × (n ≤ 16) × (n ≤ length q.now) }
-    requires small { Small q.now }
-    ensures { Summed levels n (codes c.now) at q.now 0 result }
-{
-    let mut s = Sums {
-        dot: 0,
-        squares: 0,
-        whole: true,
-    };
-    let mut j = 0usize;
-    while j < n {
-        s = add_first_code(levels, s, code_at(c, at + j), q[j]);
-        j += 1;
+    Sums {
+        dot: a.dot + b.dot,
+        check: add_checks(a.check, b.check),
     }
-    s
 }
 
-// The sums of the row at `at` and the query up to place e, given a, those up to place i: the n codes before e are summed, those
-// before i taken as 0.
-fn sums_part(
+// ---- a row
+
+// The codes of a row, and the magnitude that none of them should exceed.
+#[derive(Drop)]
+struct Row<'c, C> {
     levels: u8,
-    c: &[u8],
-    at: usize,
-    q: &[i16],
-    a: Sums,
-    i: usize,
-    e: usize,
-    n: usize,
-) -> Sums
-    requires q_in_bounds { (at + length q.now ≤ length c.now) × (length q.now ≤ 65536) × (levels ≤ 127) × (i ≤ e) × (e ≤ i + n) × (n ≤ e)
-        × (n ≤ 16) × (e ≤ length q.now) }
-    requires small { Small q.now × Summed levels i (codes c.now) at q.now 0 a }
-    ensures { Summed levels e (codes c.now) at q.now 0 result }
-{
-    let p = e - n;
-    let k = (e - i + 17 - n) as u8;
-    let mut s = Sums {
-        dot: 0,
-        squares: 0,
-        whole: true,
-    };
-    let mut j = 0usize;
-    while j < n {
-        s = add_code(levels, s, masked(code_at(c, at + p + j), j, k), q[p + j]);
-        j += 1;
-    }
-    add_sums(a, s)
+    codes: &'c [C],
+    ghost bounds: { (levels ≤ 127) × (length codes.now ≤ 65536) },
 }
 
-// The same without the query.
-fn check_part(levels: u8, c: &[u8], at: usize, a: Check, i: usize, e: usize, n: usize) -> Check
-    requires e_in_bounds { (at + e ≤ length c.now) × (e ≤ 65536) × (levels ≤ 127) × (i ≤ e) × (e ≤ i + n) × (n ≤ e) × (n ≤ 16) }
-    requires checked { Checked levels i (codes c.now) at 0 a.squares a.whole }
-    ensures { Checked levels e (codes c.now) at 0 result.squares result.whole }
-{
-    let p = e - n;
-    let k = (e - i + 17 - n) as u8;
-    let mut s = Check {
-        squares: 0,
-        whole: true,
-    };
-    let mut j = 0usize;
-    while j < n {
-        s = add_code_check(levels, s, masked(code_at(c, at + p + j), j, k));
-        j += 1;
-    }
-    add_checks(a, s)
-}
-
-// A turn: the sums up to the turn's end, given those up to place i. Each turn has one caller, so that LLVM inlines it.
-fn sums_32(levels: u8, c: &[u8], at: usize, q: &[i16], s: Sums, i: usize) -> Sums
-    requires q_in_bounds { (at + length q.now ≤ length c.now) × (length q.now ≤ 65536) × (levels ≤ 127) × (i + 32 ≤ length q.now) }
-    requires small { Small q.now × Summed levels i (codes c.now) at q.now 0 s }
-    ensures { Summed levels (i + 32) (codes c.now) at q.now 0 result }
-{
-    let s1 = sums_part(levels, c, at, q, s, i, i + 16, 16);
-    sums_part(levels, c, at, q, s1, i + 16, i + 32, 16)
-}
-
-fn sums_64(levels: u8, c: &[u8], at: usize, q: &[i16], s: Sums, i: usize) -> Sums
-    requires q_in_bounds { (at + length q.now ≤ length c.now) × (length q.now ≤ 65536) × (levels ≤ 127) × (i + 64 ≤ length q.now) }
-    requires small { Small q.now × Summed levels i (codes c.now) at q.now 0 s }
-    ensures { Summed levels (i + 64) (codes c.now) at q.now 0 result }
-{
-    let s1 = sums_part(levels, c, at, q, s, i, i + 16, 16);
-    let s2 = sums_part(levels, c, at, q, s1, i + 16, i + 32, 16);
-    let s3 = sums_part(levels, c, at, q, s2, i + 32, i + 48, 16);
-    sums_part(levels, c, at, q, s3, i + 48, i + 64, 16)
-}
-
-fn check_32(levels: u8, c: &[u8], at: usize, s: Check, i: usize) -> Check
-    requires i_in_bounds { (at + i + 32 ≤ length c.now) × (i + 32 ≤ 65536) × (levels ≤ 127) }
-    requires checked { Checked levels i (codes c.now) at 0 s.squares s.whole }
-    ensures { Checked levels (i + 32) (codes c.now) at 0 result.squares result.whole }
-{
-    let s1 = check_part(levels, c, at, s, i, i + 16, 16);
-    check_part(levels, c, at, s1, i + 16, i + 32, 16)
-}
-
-fn check_64(levels: u8, c: &[u8], at: usize, s: Check, i: usize) -> Check
-    requires i_in_bounds { (at + i + 64 ≤ length c.now) × (i + 64 ≤ 65536) × (levels ≤ 127) }
-    requires checked { Checked levels i (codes c.now) at 0 s.squares s.whole }
-    ensures { Checked levels (i + 64) (codes c.now) at 0 result.squares result.whole }
-{
-    let s1 = check_part(levels, c, at, s, i, i + 16, 16);
-    let s2 = check_part(levels, c, at, s1, i + 16, i + 32, 16);
-    let s3 = check_part(levels, c, at, s2, i + 32, i + 48, 16);
-    check_part(levels, c, at, s3, i + 48, i + 64, 16)
-}
-
-fn check_128(levels: u8, c: &[u8], at: usize, s: Check, i: usize) -> Check
-    requires i_in_bounds { (at + i + 128 ≤ length c.now) × (i + 128 ≤ 65536) × (levels ≤ 127) }
-    requires checked { Checked levels i (codes c.now) at 0 s.squares s.whole }
-    ensures { Checked levels (i + 128) (codes c.now) at 0 result.squares result.whole }
-{
-    let s1 = check_part(levels, c, at, s, i, i + 16, 16);
-    let s2 = check_part(levels, c, at, s1, i + 16, i + 32, 16);
-    let s3 = check_part(levels, c, at, s2, i + 32, i + 48, 16);
-    let s4 = check_part(levels, c, at, s3, i + 48, i + 64, 16);
-    let s5 = check_part(levels, c, at, s4, i + 64, i + 80, 16);
-    let s6 = check_part(levels, c, at, s5, i + 80, i + 96, 16);
-    let s7 = check_part(levels, c, at, s6, i + 96, i + 112, 16);
-    check_part(levels, c, at, s7, i + 112, i + 128, 16)
-}
-
-// The row's last codes, from place i on, one by one.
-fn sums_ones(levels: u8, c: &[u8], at: usize, q: &[i16], a: Sums, i: usize) -> Sums
-    requires q_in_bounds { (at + length q.now ≤ length c.now) × (length q.now ≤ 65536) × (levels ≤ 127) × (i ≤ length q.now) }
-    requires small { Small q.now × Summed levels i (codes c.now) at q.now 0 a }
-    ensures { Summed levels (length q.now) (codes c.now) at q.now 0 result }
-{
-    let n = q.len();
-    let mut s = a;
-    let mut j = i;
-    while j < n {
-        s = sums_part(levels, c, at, q, s, j, j + 1, 1);
-        j += 1;
-    }
-    s
-}
-
-// The same without the query, up to place n.
-fn check_ones(levels: u8, c: &[u8], at: usize, n: usize, a: Check, i: usize) -> Check
-    requires n_in_bounds { (at + n ≤ length c.now) × (n ≤ 65536) × (levels ≤ 127) × (i ≤ n) }
-    requires checked { Checked levels i (codes c.now) at 0 a.squares a.whole }
-    ensures { Checked levels n (codes c.now) at 0 result.squares result.whole }
-{
-    let mut s = a;
-    let mut j = i;
-    while j < n {
-        s = check_part(levels, c, at, s, j, j + 1, 1);
-        j += 1;
-    }
-    s
-}
-
-// A row of fewer than 16 codes: 8 at once where there are as many, the others one by one.
-fn short_sums(levels: u8, c: &[u8], at: usize, q: &[i16]) -> Sums
-    requires q_in_bounds { (at + length q.now ≤ length c.now) × (length q.now ≤ 65536) × (levels ≤ 127) }
-    requires small { Small q.now }
-    ensures { Summed levels (length q.now) (codes c.now) at q.now 0 result }
-{
-    if q.len() < 8 {
-        let s = Sums {
-            dot: 0,
-            squares: 0,
-            whole: true,
-        };
-        return sums_ones(levels, c, at, q, s, 0);
-    }
-    let t = sums_first(levels, c, at, q, 8);
-    sums_ones(levels, c, at, q, t, 8)
-}
-
-fn short_check(levels: u8, c: &[u8], at: usize, n: usize) -> Check
-    requires { (at + n ≤ length c.now) × (n ≤ 65536) × (levels ≤ 127) }
-    ensures { Checked levels n (codes c.now) at 0 result.squares result.whole }
-{
-    let s = Check {
-        squares: 0,
-        whole: true,
-    };
-    if n < 8 {
-        return check_ones(levels, c, at, n, s, 0);
-    }
-    let t = check_part(levels, c, at, s, 0, 8, 8);
-    check_ones(levels, c, at, n, t, 8)
-}
-
-// The row at `at`, as long as the query.
-pub fn row_sums(levels: u8, c: &[u8], at: usize, q: &[i16]) -> Sums
-    requires q_in_bounds { (at + length q.now ≤ length c.now) × (length q.now ≤ 65536) × (levels ≤ 127) }
-    requires small { Small q.now }
-    ensures { RowSums levels (part (length q.now) (codes c.now) at) q.now result }
-{
-    let n = q.len();
-    if n < 16 {
-        return short_sums(levels, c, at, q);
-    }
-    let mut s = Sums {
-        dot: 0,
-        squares: 0,
-        whole: true,
-    };
-    let mut i = 0usize;
-    let mut r = n;
-    if 16 <= r % 32 {
-        s = sums_first(levels, c, at, q, 16);
-        i += 16;
-        r -= 16;
-    }
-    if 32 <= r {
-        if 32 <= r % 64 {
-            s = sums_32(levels, c, at, q, s, i);
-            i += 32;
-            r -= 32;
+// `sums` are sums of the codes before place i, and those returned of the codes before place e.
+// The methods of `Pair` are these with a query beside the row. One form of both would be a trait over what is summed, its zero, a
+// code more and two parts, with laws for each: no plainer than the second text of six short methods.
+impl<'c, C: Code> Row<'c, C> {
+    // The n codes before e are summed, those before i taken as 0.
+    fn part(&self, sums: Check, i: usize, e: usize, n: usize) -> Check
+        requires e_in_bounds { (e ≤ length self.now.codes.now) × (i ≤ e) × (e ≤ i + n) × (n ≤ e) × (n ≤ 16) }
+        requires checked { Checked self.now.levels i (C.codes_of self.now.codes.now) 0 sums }
+        ensures { Checked self.now.levels e (C.codes_of self.now.codes.now) 0 result }
+    {
+        let p = e - n;
+        let k = (e - i + 17 - n) as u8;
+        let mut s = NO_CHECK;
+        for j in 0..n {
+            s = add_code_check(self.levels, s, masked(self.codes[p + j].value(), j, k));
         }
-        while 64 <= r {
-            s = sums_64(levels, c, at, q, s, i);
-            i += 64;
-            r -= 64;
+        add_checks(sums, s)
+    }
+
+    // A turn of 32 codes; those of 64 and 128 are two turns of half the size each.
+    #[inline(always)]
+    fn turn_32(&self, sums: Check, i: usize) -> Check
+        requires i_in_bounds { i + 32 ≤ length self.now.codes.now }
+        requires checked { Checked self.now.levels i (C.codes_of self.now.codes.now) 0 sums }
+        ensures { Checked self.now.levels (i + 32) (C.codes_of self.now.codes.now) 0 result }
+    {
+        let s = self.part(sums, i, i + 16, 16);
+        self.part(s, i + 16, i + 32, 16)
+    }
+
+    #[inline(always)]
+    fn turn_64(&self, sums: Check, i: usize) -> Check
+        requires i_in_bounds { i + 64 ≤ length self.now.codes.now }
+        requires checked { Checked self.now.levels i (C.codes_of self.now.codes.now) 0 sums }
+        ensures { Checked self.now.levels (i + 64) (C.codes_of self.now.codes.now) 0 result }
+    {
+        let s = self.turn_32(sums, i);
+        self.turn_32(s, i + 32)
+    }
+
+    #[inline(always)]
+    fn turn_128(&self, sums: Check, i: usize) -> Check
+        requires i_in_bounds { i + 128 ≤ length self.now.codes.now }
+        requires checked { Checked self.now.levels i (C.codes_of self.now.codes.now) 0 sums }
+        ensures { Checked self.now.levels (i + 128) (C.codes_of self.now.codes.now) 0 result }
+    {
+        let s = self.turn_64(sums, i);
+        self.turn_64(s, i + 64)
+    }
+
+    // The last codes, from place i on, one by one.
+    fn ones(&self, sums: Check, i: usize) -> Check
+        requires i_in_bounds { i ≤ length self.now.codes.now }
+        requires checked { Checked self.now.levels i (C.codes_of self.now.codes.now) 0 sums }
+        ensures { Checked self.now.levels (length self.now.codes.now) (C.codes_of self.now.codes.now) 0 result }
+    {
+        let mut s = sums;
+        for j in i..self.codes.len() {
+            s = self.part(s, j, j + 1, 1);
         }
+        s
     }
-    if r == 0 {
-        return s;
+
+    // A row of fewer than 16 codes: 8 at once where there are as many, the others one by one.
+    fn short(&self) -> Check
+        ensures { Checked self.now.levels (length self.now.codes.now) (C.codes_of self.now.codes.now) 0 result }
+    {
+        if self.codes.len() < 8 {
+            return self.ones(NO_CHECK, 0);
+        }
+        let s = self.part(NO_CHECK, 0, 8, 8);
+        self.ones(s, 8)
     }
-    if r < 7 {
-        return sums_ones(levels, c, at, q, s, i);
+
+    fn check(&self) -> Check
+        ensures { RowCheck self.now.levels (C.codes_of self.now.codes.now) result }
+    {
+        let n = self.codes.len();
+        if n < 16 {
+            return self.short();
+        }
+        let mut s = NO_CHECK;
+        let mut i = 0usize;
+        let mut r = n;
+        if 16 <= r % 32 {
+            s = self.part(s, i, i + 16, 16);
+            i += 16;
+            r -= 16;
+        }
+        if 32 <= r {
+            // whole turns off the rest, which count no place
+            while 128 <= r {
+                s = self.turn_128(s, i);
+                i += 128;
+                r -= 128;
+            }
+            while 64 <= r {
+                s = self.turn_64(s, i);
+                i += 64;
+                r -= 64;
+            }
+            while 32 <= r {
+                s = self.turn_32(s, i);
+                i += 32;
+                r -= 32;
+            }
+        }
+        if r == 0 {
+            return s;
+        }
+        self.part(s, i, n, 16)
     }
-    sums_part(levels, c, at, q, s, i, n, 16)
 }
 
-// The row of n codes at `at`.
-pub fn row_check(levels: u8, c: &[u8], at: usize, n: usize) -> Check
-    requires { (at + n ≤ length c.now) × (n ≤ 65536) × (levels ≤ 127) }
-    ensures { RowCheck levels (part n (codes c.now) at) result }
-{
-    if n < 16 {
-        return short_check(levels, c, at, n);
+// A row beside a query of as many codes.
+#[derive(Drop)]
+struct Pair<'c, 'q, C> {
+    row: Row<'c, C>,
+    query: &'q [i16],
+    ghost as_long: { length query.now ≡ length row.codes.now },
+    ghost small: { Small query.now },
+}
+
+impl<'c, 'q, C: Code> Pair<'c, 'q, C> {
+    // The sums of the first n codes.
+    fn first(&self, n: usize) -> Sums
+        requires { (n ≤ 16) × (n ≤ length self.now.query.now) }
+        ensures { Summed self.now.row.levels n (C.codes_of self.now.row.codes.now) self.now.query.now 0 result }
+    {
+        let mut s = NO_SUMS;
+        for j in 0..n {
+            s = add_first_code(self.row.levels, s, self.row.codes[j].value(), self.query[j]);
+        }
+        s
     }
-    let mut s = Check {
-        squares: 0,
-        whole: true,
+
+    fn part(&self, sums: Sums, i: usize, e: usize, n: usize) -> Sums
+        requires e_in_bounds { (e ≤ length self.now.query.now) × (i ≤ e) × (e ≤ i + n) × (n ≤ e) × (n ≤ 16) }
+        requires summed { Summed self.now.row.levels i (C.codes_of self.now.row.codes.now) self.now.query.now 0 sums }
+        ensures { Summed self.now.row.levels e (C.codes_of self.now.row.codes.now) self.now.query.now 0 result }
+    {
+        let p = e - n;
+        let k = (e - i + 17 - n) as u8;
+        let mut s = NO_SUMS;
+        for j in 0..n {
+            s = add_code(
+                self.row.levels,
+                s,
+                masked(self.row.codes[p + j].value(), j, k),
+                self.query[p + j],
+            );
+        }
+        add_sums(sums, s)
+    }
+
+    #[inline(always)]
+    fn turn_32(&self, sums: Sums, i: usize) -> Sums
+        requires i_in_bounds { i + 32 ≤ length self.now.query.now }
+        requires summed { Summed self.now.row.levels i (C.codes_of self.now.row.codes.now) self.now.query.now 0 sums }
+        ensures { Summed self.now.row.levels (i + 32) (C.codes_of self.now.row.codes.now) self.now.query.now 0 result }
+    {
+        let s = self.part(sums, i, i + 16, 16);
+        self.part(s, i + 16, i + 32, 16)
+    }
+
+    #[inline(always)]
+    fn turn_64(&self, sums: Sums, i: usize) -> Sums
+        requires i_in_bounds { i + 64 ≤ length self.now.query.now }
+        requires summed { Summed self.now.row.levels i (C.codes_of self.now.row.codes.now) self.now.query.now 0 sums }
+        ensures { Summed self.now.row.levels (i + 64) (C.codes_of self.now.row.codes.now) self.now.query.now 0 result }
+    {
+        let s = self.turn_32(sums, i);
+        self.turn_32(s, i + 32)
+    }
+
+    fn ones(&self, sums: Sums, i: usize) -> Sums
+        requires i_in_bounds { i ≤ length self.now.query.now }
+        requires summed { Summed self.now.row.levels i (C.codes_of self.now.row.codes.now) self.now.query.now 0 sums }
+        ensures { Summed self.now.row.levels (length self.now.query.now) (C.codes_of self.now.row.codes.now) self.now.query.now 0 result }
+    {
+        let mut s = sums;
+        for j in i..self.query.len() {
+            s = self.part(s, j, j + 1, 1);
+        }
+        s
+    }
+
+    fn short(&self) -> Sums
+        ensures { Summed self.now.row.levels (length self.now.query.now) (C.codes_of self.now.row.codes.now) self.now.query.now 0 result }
+    {
+        if self.query.len() < 8 {
+            return self.ones(NO_SUMS, 0);
+        }
+        let s = self.first(8);
+        self.ones(s, 8)
+    }
+
+    fn sums(&self) -> Sums
+        ensures { RowSums self.now.row.levels (C.codes_of self.now.row.codes.now) self.now.query.now result }
+    {
+        let n = self.query.len();
+        if n < 16 {
+            return self.short();
+        }
+        let mut s = NO_SUMS;
+        let mut i = 0usize;
+        let mut r = n;
+        if 16 <= r % 32 {
+            s = self.first(16);
+            i += 16;
+            r -= 16;
+        }
+        if 32 <= r {
+            if 32 <= r % 64 {
+                s = self.turn_32(s, i);
+                i += 32;
+                r -= 32;
+            }
+            while 64 <= r {
+                s = self.turn_64(s, i);
+                i += 64;
+                r -= 64;
+            }
+        }
+        if r == 0 {
+            return s;
+        }
+        if r < 7 {
+            return self.ones(s, i);
+        }
+        self.part(s, i, n, 16)
+    }
+}
+
+// ---- the sums of a row
+
+// The row beside the query.
+pub fn row_sums<C: Code>(levels: u8, codes: &[C], query: &[i16]) -> Sums
+    requires bounds { (length query.now ≡ length codes.now) × (length query.now ≤ 65536) × (levels ≤ 127) }
+    requires small { Small query.now }
+    ensures { RowSums levels (C.codes_of codes.now) query.now result }
+{
+    let pair = Pair {
+        row: Row { levels, codes },
+        query,
     };
-    let mut i = 0usize;
-    let mut r = n;
-    if 16 <= r % 32 {
-        s = check_part(levels, c, at, s, i, i + 16, 16);
-        i += 16;
-        r -= 16;
-    }
-    if 32 <= r {
-        while 128 <= r {
-            s = check_128(levels, c, at, s, i);
-            i += 128;
-            r -= 128;
-        }
-        while 64 <= r {
-            s = check_64(levels, c, at, s, i);
-            i += 64;
-            r -= 64;
-        }
-        while 32 <= r {
-            s = check_32(levels, c, at, s, i);
-            i += 32;
-            r -= 32;
-        }
-    }
-    if r == 0 {
-        return s;
-    }
-    check_part(levels, c, at, s, i, n, 16)
+    pair.sums()
 }
 
-// ---- a resident row
-
-// The sums of the row's first n codes.
-fn sums_first_resident(levels: u8, c: &[i8], at: usize, q: &[i16], n: usize) -> Sums
-    requires q_in_bounds { (at + length q.now ≤ length c.now) × (length q.now ≤ 65536) × (levels ≤ 127) × (n ≤ 16) × (n ≤ length q.now) }
-    requires small { Small q.now }
-    ensures { Summed levels n c.now at q.now 0 result }
+// The row alone.
+pub fn row_check<C: Code>(levels: u8, codes: &[C]) -> Check
+    requires { (length codes.now ≤ 65536) × (levels ≤ 127) }
+    ensures { RowCheck levels (C.codes_of codes.now) result }
 {
-    let mut s = Sums {
-        dot: 0,
-        squares: 0,
-        whole: true,
-    };
-    let mut j = 0usize;
-    while j < n {
-        s = add_first_code(levels, s, c[at + j], q[j]);
-        j += 1;
-    }
-    s
-}
-
-// The sums of the row at `at` and the query up to place e, given a, those up to place i: the n codes before e are summed, those
-// before i taken as 0.
-fn sums_part_resident(
-    levels: u8,
-    c: &[i8],
-    at: usize,
-    q: &[i16],
-    a: Sums,
-    i: usize,
-    e: usize,
-    n: usize,
-) -> Sums
-    requires q_in_bounds { (at + length q.now ≤ length c.now) × (length q.now ≤ 65536) × (levels ≤ 127) × (i ≤ e) × (e ≤ i + n) × (n ≤ e)
-        × (n ≤ 16) × (e ≤ length q.now) }
-    requires small { Small q.now × Summed levels i c.now at q.now 0 a }
-    ensures { Summed levels e c.now at q.now 0 result }
-{
-    let p = e - n;
-    let k = (e - i + 17 - n) as u8;
-    let mut s = Sums {
-        dot: 0,
-        squares: 0,
-        whole: true,
-    };
-    let mut j = 0usize;
-    while j < n {
-        s = add_code(levels, s, masked(c[at + p + j], j, k), q[p + j]);
-        j += 1;
-    }
-    add_sums(a, s)
-}
-
-// The same without the query.
-fn check_part_resident(
-    levels: u8,
-    c: &[i8],
-    at: usize,
-    a: Check,
-    i: usize,
-    e: usize,
-    n: usize,
-) -> Check
-    requires e_in_bounds { (at + e ≤ length c.now) × (e ≤ 65536) × (levels ≤ 127) × (i ≤ e) × (e ≤ i + n) × (n ≤ e) × (n ≤ 16) }
-    requires checked { Checked levels i c.now at 0 a.squares a.whole }
-    ensures { Checked levels e c.now at 0 result.squares result.whole }
-{
-    let p = e - n;
-    let k = (e - i + 17 - n) as u8;
-    let mut s = Check {
-        squares: 0,
-        whole: true,
-    };
-    let mut j = 0usize;
-    while j < n {
-        s = add_code_check(levels, s, masked(c[at + p + j], j, k));
-        j += 1;
-    }
-    add_checks(a, s)
-}
-
-// A turn: the sums up to the turn's end, given those up to place i. Each turn has one caller, so that LLVM inlines it.
-fn sums_32_resident(levels: u8, c: &[i8], at: usize, q: &[i16], s: Sums, i: usize) -> Sums
-    requires q_in_bounds { (at + length q.now ≤ length c.now) × (length q.now ≤ 65536) × (levels ≤ 127) × (i + 32 ≤ length q.now) }
-    requires small { Small q.now × Summed levels i c.now at q.now 0 s }
-    ensures { Summed levels (i + 32) c.now at q.now 0 result }
-{
-    let s1 = sums_part_resident(levels, c, at, q, s, i, i + 16, 16);
-    sums_part_resident(levels, c, at, q, s1, i + 16, i + 32, 16)
-}
-
-fn sums_64_resident(levels: u8, c: &[i8], at: usize, q: &[i16], s: Sums, i: usize) -> Sums
-    requires q_in_bounds { (at + length q.now ≤ length c.now) × (length q.now ≤ 65536) × (levels ≤ 127) × (i + 64 ≤ length q.now) }
-    requires small { Small q.now × Summed levels i c.now at q.now 0 s }
-    ensures { Summed levels (i + 64) c.now at q.now 0 result }
-{
-    let s1 = sums_part_resident(levels, c, at, q, s, i, i + 16, 16);
-    let s2 = sums_part_resident(levels, c, at, q, s1, i + 16, i + 32, 16);
-    let s3 = sums_part_resident(levels, c, at, q, s2, i + 32, i + 48, 16);
-    sums_part_resident(levels, c, at, q, s3, i + 48, i + 64, 16)
-}
-
-fn check_32_resident(levels: u8, c: &[i8], at: usize, s: Check, i: usize) -> Check
-    requires i_in_bounds { (at + i + 32 ≤ length c.now) × (i + 32 ≤ 65536) × (levels ≤ 127) }
-    requires checked { Checked levels i c.now at 0 s.squares s.whole }
-    ensures { Checked levels (i + 32) c.now at 0 result.squares result.whole }
-{
-    let s1 = check_part_resident(levels, c, at, s, i, i + 16, 16);
-    check_part_resident(levels, c, at, s1, i + 16, i + 32, 16)
-}
-
-fn check_64_resident(levels: u8, c: &[i8], at: usize, s: Check, i: usize) -> Check
-    requires i_in_bounds { (at + i + 64 ≤ length c.now) × (i + 64 ≤ 65536) × (levels ≤ 127) }
-    requires checked { Checked levels i c.now at 0 s.squares s.whole }
-    ensures { Checked levels (i + 64) c.now at 0 result.squares result.whole }
-{
-    let s1 = check_part_resident(levels, c, at, s, i, i + 16, 16);
-    let s2 = check_part_resident(levels, c, at, s1, i + 16, i + 32, 16);
-    let s3 = check_part_resident(levels, c, at, s2, i + 32, i + 48, 16);
-    check_part_resident(levels, c, at, s3, i + 48, i + 64, 16)
-}
-
-fn check_128_resident(levels: u8, c: &[i8], at: usize, s: Check, i: usize) -> Check
-    requires i_in_bounds { (at + i + 128 ≤ length c.now) × (i + 128 ≤ 65536) × (levels ≤ 127) }
-    requires checked { Checked levels i c.now at 0 s.squares s.whole }
-    ensures { Checked levels (i + 128) c.now at 0 result.squares result.whole }
-{
-    let s1 = check_part_resident(levels, c, at, s, i, i + 16, 16);
-    let s2 = check_part_resident(levels, c, at, s1, i + 16, i + 32, 16);
-    let s3 = check_part_resident(levels, c, at, s2, i + 32, i + 48, 16);
-    let s4 = check_part_resident(levels, c, at, s3, i + 48, i + 64, 16);
-    let s5 = check_part_resident(levels, c, at, s4, i + 64, i + 80, 16);
-    let s6 = check_part_resident(levels, c, at, s5, i + 80, i + 96, 16);
-    let s7 = check_part_resident(levels, c, at, s6, i + 96, i + 112, 16);
-    check_part_resident(levels, c, at, s7, i + 112, i + 128, 16)
-}
-
-// The row's last codes, from place i on, one by one.
-fn sums_ones_resident(levels: u8, c: &[i8], at: usize, q: &[i16], a: Sums, i: usize) -> Sums
-    requires q_in_bounds { (at + length q.now ≤ length c.now) × (length q.now ≤ 65536) × (levels ≤ 127) × (i ≤ length q.now) }
-    requires small { Small q.now × Summed levels i c.now at q.now 0 a }
-    ensures { Summed levels (length q.now) c.now at q.now 0 result }
-{
-    let n = q.len();
-    let mut s = a;
-    let mut j = i;
-    while j < n {
-        s = sums_part_resident(levels, c, at, q, s, j, j + 1, 1);
-        j += 1;
-    }
-    s
-}
-
-// The same without the query, up to place n.
-fn check_ones_resident(levels: u8, c: &[i8], at: usize, n: usize, a: Check, i: usize) -> Check
-    requires n_in_bounds { (at + n ≤ length c.now) × (n ≤ 65536) × (levels ≤ 127) × (i ≤ n) }
-    requires checked { Checked levels i c.now at 0 a.squares a.whole }
-    ensures { Checked levels n c.now at 0 result.squares result.whole }
-{
-    let mut s = a;
-    let mut j = i;
-    while j < n {
-        s = check_part_resident(levels, c, at, s, j, j + 1, 1);
-        j += 1;
-    }
-    s
-}
-
-// A row of fewer than 16 codes: 8 at once where there are as many, the others one by one.
-fn short_sums_resident(levels: u8, c: &[i8], at: usize, q: &[i16]) -> Sums
-    requires q_in_bounds { (at + length q.now ≤ length c.now) × (length q.now ≤ 65536) × (levels ≤ 127) }
-    requires small { Small q.now }
-    ensures { Summed levels (length q.now) c.now at q.now 0 result }
-{
-    if q.len() < 8 {
-        let s = Sums {
-            dot: 0,
-            squares: 0,
-            whole: true,
-        };
-        return sums_ones_resident(levels, c, at, q, s, 0);
-    }
-    let t = sums_first_resident(levels, c, at, q, 8);
-    sums_ones_resident(levels, c, at, q, t, 8)
-}
-
-fn short_check_resident(levels: u8, c: &[i8], at: usize, n: usize) -> Check
-    requires { (at + n ≤ length c.now) × (n ≤ 65536) × (levels ≤ 127) }
-    ensures { Checked levels n c.now at 0 result.squares result.whole }
-{
-    let s = Check {
-        squares: 0,
-        whole: true,
-    };
-    if n < 8 {
-        return check_ones_resident(levels, c, at, n, s, 0);
-    }
-    let t = check_part_resident(levels, c, at, s, 0, 8, 8);
-    check_ones_resident(levels, c, at, n, t, 8)
-}
-
-// The row at `at`, as long as the query.
-pub fn row_sums_resident(levels: u8, c: &[i8], at: usize, q: &[i16]) -> Sums
-    requires q_in_bounds { (at + length q.now ≤ length c.now) × (length q.now ≤ 65536) × (levels ≤ 127) }
-    requires small { Small q.now }
-    ensures { RowSums levels (part (length q.now) c.now at) q.now result }
-{
-    let n = q.len();
-    if n < 16 {
-        return short_sums_resident(levels, c, at, q);
-    }
-    let mut s = Sums {
-        dot: 0,
-        squares: 0,
-        whole: true,
-    };
-    let mut i = 0usize;
-    let mut r = n;
-    if 16 <= r % 32 {
-        s = sums_first_resident(levels, c, at, q, 16);
-        i += 16;
-        r -= 16;
-    }
-    if 32 <= r {
-        if 32 <= r % 64 {
-            s = sums_32_resident(levels, c, at, q, s, i);
-            i += 32;
-            r -= 32;
-        }
-        while 64 <= r {
-            s = sums_64_resident(levels, c, at, q, s, i);
-            i += 64;
-            r -= 64;
-        }
-    }
-    if r == 0 {
-        return s;
-    }
-    if r < 7 {
-        return sums_ones_resident(levels, c, at, q, s, i);
-    }
-    sums_part_resident(levels, c, at, q, s, i, n, 16)
-}
-
-// The row of n codes at `at`.
-pub fn row_check_resident(levels: u8, c: &[i8], at: usize, n: usize) -> Check
-    requires { (at + n ≤ length c.now) × (n ≤ 65536) × (levels ≤ 127) }
-    ensures { RowCheck levels (part n c.now at) result }
-{
-    if n < 16 {
-        return short_check_resident(levels, c, at, n);
-    }
-    let mut s = Check {
-        squares: 0,
-        whole: true,
-    };
-    let mut i = 0usize;
-    let mut r = n;
-    if 16 <= r % 32 {
-        s = check_part_resident(levels, c, at, s, i, i + 16, 16);
-        i += 16;
-        r -= 16;
-    }
-    if 32 <= r {
-        while 128 <= r {
-            s = check_128_resident(levels, c, at, s, i);
-            i += 128;
-            r -= 128;
-        }
-        while 64 <= r {
-            s = check_64_resident(levels, c, at, s, i);
-            i += 64;
-            r -= 64;
-        }
-        while 32 <= r {
-            s = check_32_resident(levels, c, at, s, i);
-            i += 32;
-            r -= 32;
-        }
-    }
-    if r == 0 {
-        return s;
-    }
-    check_part_resident(levels, c, at, s, i, n, 16)
+    let row = Row { levels, codes };
+    row.check()
 }

@@ -20,11 +20,9 @@ use Rattle.config.proofs.Vectors.{length_floats}
 -- ---- every element
 module _ {A : Type 0} (test : A → Bool) where
   pub all_cons : (x : A) (v : List A) → all test (x ∷ v) ≡ true → (T (test x)) × (all test v ≡ true)
-  unfolding all
   all_cons x v h = let t : T (test x && all test v) = rw h tt in (and_l (test x) (all test v) t, is_true (all test v) (and_r (test x) (all test v) t))
 
   pub all_by : (v : List A) (d : A) → ((i : ℕ) → T (test (get_or v i d))) → all test v ≡ true
-  unfolding all
   all_by [] d h = refl
   all_by (x ∷ v) d h = rw (is_true (test x) (h 0), all_by v d (λ i. h (suc i)))
 
@@ -59,7 +57,6 @@ finite_at n s at i h k = rw (← floats_at_lem n s at i h) (is_true (finite (get
 
 -- what was made of patterns fits
 pub patterns_fit : (bs : List ℕ) → all (fits binary32) (map (of_bits binary32) bs) ≡ true
-unfolding all
 patterns_fit [] = refl
 patterns_fit (b ∷ bs) = rw (is_true (fits binary32 (of_bits binary32 b)) (of_bits-fits binary32 b), patterns_fit bs)
 

@@ -3,17 +3,17 @@ use mathlib.Core.Path.{◌≡◌, refl, sym, ap, ◌∙◌}
 use mathlib.Core.Bool.{Bool, true, false, not, ◌&&◌, ◌||◌, and-true, and_assoc, or-true, beq, true≢false}
 use mathlib.Core.List.{List, [], ◌∷◌, map}
 use lib.ListN.{length-map}
+use Rattle.std.specs.List.{list_any}
+use Rattle.std.specs.Float.{float_is_finite}
 use Prim.Native.Nat.{ℕ, zero, suc, ◌+◌, ◌*◌, ◌-◌, ◌%◌, ◌^◌, ◌≤◌, ◌<◌, max}
 use native.Mathlib.Nat.{add-zero, mul-one, zero-mul, mul-pos}
-use native.Mathlib.Numerals.{add-one}
 use native.Mathlib.Omega.{arith}
 use borrow.Author.Tests.{lt-ltb, le-ltb, ltb-true, ltb-false, eq-eqb, ne_eqb, eqb-true, eqb-false}
 use lib.Dec.{T, ltb, leb, eqb}
 use lib.Pow.{pow_pos}
 use lib.Ieee.Fits.{down_pos}
-use lib.ListN.{length, get_or, drop, drop_of_length-le}
-use lib.Seq.{drop-cons}
-use lib.Ieee.{Float, nan, inf, fin, binary32, up, down, of_bits, lt, eq}
+use lib.ListN.{length}
+use lib.Ieee.{Float, nan, inf, fin, binary32, up, down, of_bits, eq}
 use lib.Ieee.Scale.{finite}
 use lib.Ieee.Exact.{HasValue}
 use Rattle.le.specs.Le.{le_at}
@@ -27,51 +27,27 @@ use Rattle.config.specs.Vector.{all, finites, all_zero, valid_vector, patterns_a
 -- ---- a test of every element
 
 module _ {A : Type 0} (test : A → Bool) where
-  -- one turn of a loop, and its end
-  pub all_turn : (v : List A) (i : ℕ) (d : A) → i < length v → all test (drop i v) ≡ (test (get_or v i d) && all test (drop (i + 1) v))
-  unfolding all
-  all_turn v i d h = rw (add-one i, drop-cons v i d h)
-
-  pub all_done : (v : List A) (i : ℕ) → length v ≤ i → all test (drop i v) ≡ true
-  unfolding all
-  all_done v i h = rw (drop_of_length-le v h)
-
   pub all_ext : (other : A → Bool) → ((x : A) → test x ≡ other x) → (v : List A) → all test v ≡ all other v
-  unfolding all
   all_ext other e [] = refl
   all_ext other e (x ∷ v) = rw (e x, all_ext other e v)
 
   pub all_map : {B : Type 0} (f : B → A) (v : List B) → all test (map f v) ≡ all (λ x. test (f x)) v
-  unfolding all
   all_map f [] = refl
   all_map f (x ∷ v) = rw (all_map f v)
 
--- b says whether the elements before i pass
-pub record Sofar {A : Type 0} (test : A → Bool) (v : List A) (i : ℕ) (b : Bool) : Type 0 where
-  pub so : (b && all test (drop i v)) ≡ all test v
-
-module _ {A : Type 0} {test : A → Bool} {v : List A} where
-  pub sofar_start : Sofar test v 0 true
-  sofar_start = record { so = refl }
-
-  pub sofar_turn : {i : ℕ} {b c n : Bool} (d : A) → i < length v → c ≡ test (get_or v i d) → n ≡ (b && c) → Sofar test v i b → Sofar test v (i + 1) n
-  sofar_turn {i} {b} {c} d h e k f = record {
-    so = ap (λ x. x && all test (drop (i + 1) v)) k ∙ and_assoc b c (all test (drop (i + 1) v))
-        ∙ ap (λ x. b && x) (ap (λ x. x && all test (drop (i + 1) v)) e ∙ sym (all_turn test v i d h)) ∙ f.so;
-  }
-
-  pub sofar_done : {i : ℕ} {b : Bool} → length v ≤ i → Sofar test v i b → b ≡ all test v
-  sofar_done {i} {b} h f = sym (ap (λ x. b && x) (all_done test v i h) ∙ and-true b) ∙ f.so
+-- no element passes where each fails
+pub none_passes : {A : Type 0} (test : A → Bool) (v : List A) → not (list_any test v) ≡ all (λ x. not (test x)) v
+none_passes test [] = refl
+none_passes test (x ∷ v) = by (test x) (λ e. rw e) (λ e. rw (e, none_passes test v))
 
 -- ---- floats
 
--- finite, by two comparisons
-pub between : (x : Float) → (lt (inf true) x && lt x (inf false)) ≡ finite x
-unfolding lt
-between nan = refl
-between (inf true) = refl
-between (inf false) = refl
-between (fin s m e) = refl
+-- finite, as std has it
+pub is_finite : (x : Float) → float_is_finite x ≡ finite x
+unfolding float_is_finite
+is_finite nan = refl
+is_finite (inf s) = refl
+is_finite (fin s m e) = refl
 
 -- ---- patterns
 
@@ -85,7 +61,7 @@ max_ltb a b k =
     (λ p. rw p (le-ltb (max a b) k (omega (arith, ltb-false a k p))))
 
 pub largest_ltb : (k m : ℕ) (bs : List ℕ) → ltb (largest_pattern_from m bs) k ≡ (ltb m k && all (λ b. ltb (b % 2147483648) k) bs)
-unfolding largest_pattern_from all
+unfolding largest_pattern_from
 largest_ltb k m [] = sym (and-true (ltb m k))
 largest_ltb k m (b ∷ bs) =
     largest_ltb k (max m (b % 2147483648)) bs ∙ ap (λ x. x && all (λ b. ltb (b % 2147483648) k) bs) (max_ltb m (b % 2147483648) k)

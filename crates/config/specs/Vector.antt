@@ -1,6 +1,7 @@
 -- The vector test (document 01, table: 16, "query count, non-finite value, zero query under cosine", and the same of a record at
 -- 5; config.rs, `validate_vector`), and the floats in a record's bytes (Layouts: "A record is id, metadata length, f32 coordinates").
-use Rattle.std.specs.Prelude.{Bool, true, not, ◌&&◌, List, [], ◌∷◌, map, ℕ, zero, suc, ◌+◌, ◌%◌, max, eqb, length, Float}
+use Rattle.std.specs.Prelude.{Bool, not, ◌&&◌, List, [], ◌∷◌, map, ℕ, zero, suc, ◌+◌, ◌%◌, max, eqb, length, Float}
+use Rattle.std.specs.List.{list_all}
 use Rattle.std.specs.Float.{binary32}
 use Rattle.std.specs.Float.Ieee.{of_bits, eq}
 use Rattle.std.specs.Float.Ieee.Scale.{finite}
@@ -10,9 +11,8 @@ use Rattle.config.specs.Metric.{is_cosine}
 use Rattle.config.specs.declared.Metric.{Metric}
 
 -- every element passes
-unfoldable pub all : {A : Type 0} → (A → Bool) → List A → Bool
-all test [] = true
-all test (x ∷ v) = test x && all test v
+abbrev pub all : {A : Type 0} → (A → Bool) → List A → Bool
+all = list_all
 
 abbrev pub finites : List Float → Bool
 finites v = all finite v

@@ -4,6 +4,7 @@
 ghost use Rattle.std.specs.Prelude.{◌≡◌, ◌&&◌, ◌+◌, ◌*◌, ◌≤◌, leb, length};
 ghost use Rattle.config.specs.Limits.{max_results, max_candidates};
 ghost use Rattle.config.specs.Metric.{metric_of, byte_of, is_cosine};
+ghost use Rattle.config.specs.Refusal.{refused};
 ghost use Rattle.config.specs.Space.{valid_config, no_zero, valid_space};
 ghost use Rattle.config.specs.Vector.{valid_vector, floats_at, patterns_at, largest_bits};
 
@@ -51,61 +52,60 @@ pub struct Refusal {
     pub place: u64,
 }
 
-#[derive(Clone, Copy)]
+#[derive(Clone, Copy, Debug, PartialEq, Eq)]
 pub enum Metric {
     SquaredL2,
     Cosine,
     InnerProduct,
 }
 
-// What a metric byte says.
-#[derive(Clone, Copy)]
-pub enum MetricAnswer {
-    Known(Metric),
-    Refused(Refusal),
+// A metric byte that names no metric.
+#[derive(Clone, Copy, Debug, PartialEq, Eq)]
+pub struct UnknownMetric(pub u8);
+
+impl TryFrom<u8> for Metric {
+    type Error = UnknownMetric;
+
+    ghost try_from_gives = { λ byte answer. answer ≡ metric_of byte };
+
+    #[tactic(auto, unfolding(crate::specs::Metric::metric_of))]
+    fn try_from(byte: u8) -> Result<Self, UnknownMetric> {
+        match byte {
+            0 => Ok(Metric::SquaredL2),
+            1 => Ok(Metric::Cosine),
+            2 => Ok(Metric::InnerProduct),
+            _ => Err(UnknownMetric(byte)),
+        }
+    }
+}
+
+// 2: a metric that is none.
+impl From<UnknownMetric> for Refusal {
+    ghost from_gives = { λ _ refusal. refusal ≡ refused 2 0 };
+
+    fn from(_: UnknownMetric) -> Self {
+        Refusal {
+            number: 2,
+            place: 0,
+        }
+    }
 }
 
 impl Metric {
-    pub fn from_byte(b: u8) -> MetricAnswer
-        ensures { result ≡ metric_of b }
-    {
-        if b == 0 {
-            return MetricAnswer::Known(Metric::SquaredL2);
-        }
-        if b == 1 {
-            return MetricAnswer::Known(Metric::Cosine);
-        }
-        if b == 2 {
-            return MetricAnswer::Known(Metric::InnerProduct);
-        }
-        MetricAnswer::Refused(Refusal {
-            number: 2,
-            place: 0,
-        })
-    }
-
     pub fn byte(self) -> u8
         ensures { result ≡ byte_of self }
     {
-        match self {
-            Metric::SquaredL2 => 0,
-            Metric::Cosine => 1,
-            Metric::InnerProduct => 2,
-        }
+        self as u8
     }
 
     pub fn is_cosine(self) -> bool
         ensures { result ≡ is_cosine self }
     {
-        match self {
-            Metric::SquaredL2 => false,
-            Metric::Cosine => true,
-            Metric::InnerProduct => false,
-        }
+        self == Metric::Cosine
     }
 }
 
-#[derive(Clone, Copy)]
+#[derive(Clone, Copy, Debug, PartialEq, Eq)]
 pub struct Config {
     pub dimensions: usize,
     pub m: usize,
@@ -129,13 +129,7 @@ impl Config {
 fn no_zero(s: &[u8]) -> bool
     ensures { result ≡ no_zero s.now }
 {
-    let mut ok = true;
-    let mut i = 0;
-    while i < s.len() {
-        ok = ok & (s[i] != 0);
-        i += 1;
-    }
-    ok
+    !s.contains(&0)
 }
 
 // What is left of the configuration's test where m and ef are the defaults.
@@ -163,17 +157,8 @@ pub fn validate_vector(metric: Metric, dimensions: usize, vector: &[f32]) -> boo
     if vector.len() != dimensions {
         return false;
     }
-    let top: f32 = 1.0 / 0.0;
-    let low: f32 = -1.0 / 0.0;
-    let mut finite = true;
-    let mut zero = true;
-    let mut i = 0;
-    while i < vector.len() {
-        let x = vector[i];
-        finite = finite & ((low < x) & (x < top));
-        zero = zero & (x == 0.0);
-        i += 1;
-    }
+    let finite = vector.iter().all(|x| x.is_finite());
+    let zero = vector.iter().all(|x| *x == 0.0);
     finite & !(metric.is_cosine() & zero)
 }
 
@@ -183,13 +168,8 @@ pub fn largest_bits(s: &[u8], at: usize, n: usize) -> u32
     ensures { result ≡ largest_bits (patterns_at n s.now at) }
 {
     let mut most: u32 = 0;
-    let mut i = 0;
-    while i < n {
-        let b = le::u32_at(s, at + 4 * i) % 2147483648;
-        if most < b {
-            most = b;
-        }
-        i += 1;
+    for i in 0..n {
+        most = most.max(le::u32_at(s, at + 4 * i) % 2147483648);
     }
     most
 }

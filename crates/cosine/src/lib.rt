@@ -11,10 +11,7 @@ ghost use Rattle.cosine.specs.Far.{positive_part, is_far, Far};
 fn positive_part(d: i32) -> u64
     ensures { (result ≡ positive_part d) × (result ≤ 2147483648) }
 {
-    if d < 0 {
-        return 0;
-    }
-    d as u64
+    d.max(0) as u64
 }
 
 // Whether a row with these sums is too far by the limit t.
@@ -51,7 +48,7 @@ fn limit(worst: u64, norm: u64) -> u32
 }
 
 // The limit for the worst key that is kept and the query's norm; 0, by which no row is too far, where none is found: while there is
-// room, or where the worst distance is 1 or more.
+// room, or where the worst distance is 1 or more. (No Option: 0 is a limit as any other, and a row needs no test of whether there is one.)
 pub fn far_limit(worst: u64, norm: i64) -> u32
     ensures { Far (sqrt_of (of_int binary64 norm)) worst result }
 {

@@ -9,8 +9,6 @@ use lib.Bits.{bit_xor, differ, xor_comm, xor_zero_r, xor_shifted}
 use lib.ListN.{length, get_or, drop, drop_of_length-le}
 use lib.Seq.{drop-cons}
 use Rattle.crc32.specs.Crc.{step, steps, update}
-use Rattle.crc32.specs.Tables.{entries}
-use Rattle.crc32.proofs.Tab.{at}
 use Rattle.crc32.proofs.Xor.{xor_half, xor_odd, xor_four}
 
 polys : (x y : ℕ) → x < 2 → y < 2 → differ x y * 0xEDB88320 ≡ bit_xor (x * 0xEDB88320) (y * 0xEDB88320)
@@ -76,7 +74,3 @@ crc_turn s c i h = rw (add-one i, drop-cons s i 0 h)
 pub crc_done : (s : List ℕ) (c i : ℕ) → length s ≤ i → update c (drop i s) ≡ c
 unfolding update
 crc_done s c i h = rw (drop_of_length-le s h)
-
-pub look : (t : List ℕ) (k c : ℕ) → t ≡ entries → k ≡ c % 256 → bit_xor (get_or t k 0) (c / 256) ≡ steps 8 c
-unfolding entries
-look t k c e h = rw (e, h, at (steps 8) 256 (c % 256) (omega arith)) (sym (by_table c))

@@ -1,9 +1,9 @@
 // CRC-32: storage.rs's `Crc32`. A caller that sums much makes the tables once and lends them.
 #![tactic(auto)]
 
-ghost use Rattle.std.specs.Prelude.{◌≡◌, ◌+◌, ◌*◌, ◌%◌, ◌<◌, ◌≤◌};
+ghost use Rattle.std.specs.Prelude.{◌≡◌, ◌+◌, ◌*◌, ◌≤◌, take};
 ghost use Rattle.crc32.specs.Crc.{steps, update as updated, finish as complement, crc32 as checksum, ends_in_crc};
-ghost use Rattle.crc32.specs.Tables.{entries, slot, slots, Filled};
+ghost use Rattle.crc32.specs.Tables.{entries, slots};
 
 // The sum before the first byte.
 pub const START: u32 = 0xffff_ffff;
@@ -44,118 +44,102 @@ const TABLE: [u32; 256] = [
     0xb3667a2e, 0xc4614ab8, 0x5d681b02, 0x2a6f2b94, 0xb40bbe37, 0xc30c8ea1, 0x5a05df1b, 0x2d02ef8d,
 ];
 
-pub fn table() -> [u32; 256]
-    ensures { result ≡ entries }
-{
-    TABLE
+// The table for a byte at a time.
+#[derive(Drop)]
+pub struct Table {
+    numbers: [u32; 256],
+    ghost is_entries: { numbers ≡ entries },
 }
 
-fn wide(x: u8) -> u32
-    ensures { (result ≡ x) × (result < 256) }
-{
-    x as u32
+impl Table {
+    pub fn new() -> Table {
+        Table { numbers: TABLE }
+    }
+
+    // The sum after the bytes of s, from the sum c before them.
+    pub fn update(&self, c: u32, s: &[u8]) -> u32
+        ensures { result ≡ updated c s.now }
+    {
+        by_bytes(&self.numbers, c, s)
+    }
 }
 
-fn low(x: u32) -> usize
-    ensures { result ≡ x % 256 }
-{
-    (x % 256) as usize
+// The eight tables for eight bytes at a time, one after the other.
+#[derive(Drop)]
+pub struct Tables {
+    numbers: [u32; 2048],
+    ghost is_slots: { numbers ≡ slots },
 }
 
-// The sum c after eight steps.
-fn eight(t: &[u32; 256], c: u32) -> u32
-    requires { t.now ≡ entries }
+impl Tables {
+    // Each table is the one before after eight steps.
+    pub fn new() -> Tables {
+        let first = Table::new();
+        let mut numbers = [0; 2048];
+        numbers[..256].copy_from_slice(&first.numbers);
+        for i in 256..2048 {
+            numbers[i] = eight_steps(&first.numbers, numbers[i - 256]);
+        }
+        Tables { numbers }
+    }
+
+    // Four bytes, through the tables j to j + 3.
+    fn four(&self, a: u32, j: usize) -> u32
+        requires { j ≤ 4 }
+        ensures { result ≡ steps (32 + 8 * j) a }
+    {
+        let t = &self.numbers;
+        let [a0, a1, a2, a3] = a.to_le_bytes();
+        let k0 = usize::from(a0) + 256 * (j + 3);
+        let k1 = usize::from(a1) + 256 * (j + 2);
+        let k2 = usize::from(a2) + 256 * (j + 1);
+        let k3 = usize::from(a3) + 256 * j;
+        t[k0] ^ t[k1] ^ t[k2] ^ t[k3]
+    }
+
+    // The 64 bits of a and b after 64 steps.
+    fn eight_bytes(&self, a: u32, b: u32) -> u32
+        ensures { result ≡ steps 64 (a + 4294967296 * b) }
+    {
+        self.four(a, 4) ^ self.four(b, 0)
+    }
+
+    // The sum after the bytes of s, from the sum c before them.
+    pub fn update(&self, c: u32, s: &[u8]) -> u32
+        ensures { result ≡ updated c s.now }
+    {
+        let (words, rest) = s.as_chunks::<8>();
+        let mut sum = c;
+        for w in words {
+            sum = self.eight_bytes(sum ^ le::u32_at(w, 0), le::u32_at(w, 4));
+        }
+        by_bytes(&self.numbers, sum, rest)
+    }
+
+    // The checksum of s.
+    pub fn crc32(&self, s: &[u8]) -> u32
+        ensures { result ≡ checksum s.now }
+    {
+        finish(self.update(START, s))
+    }
+}
+
+// The sum c after eight steps, by a table that begins with the entries.
+fn eight_steps(t: &[u32], c: u32) -> u32
+    requires { take 256 t.now ≡ entries }
     ensures { result ≡ steps 8 c }
 {
-    let k = low(c);
-    t[k] ^ (c >> 8)
+    t[(c % 256) as usize] ^ (c >> 8)
 }
 
-// The sum after the bytes of s, from the sum c before them, a byte at a time.
-pub fn update_bytes(t: &[u32; 256], c: u32, s: &[u8]) -> u32
-    requires { t.now ≡ entries }
+// The sum after the bytes of s, from the sum c before them, by such a table.
+fn by_bytes(t: &[u32], c: u32, s: &[u8]) -> u32
+    requires { take 256 t.now ≡ entries }
     ensures { result ≡ updated c s.now }
 {
     let mut sum = c;
-    let mut i = 0;
-    while i < s.len() {
-        sum = eight(t, sum ^ wide(s[i]));
-        i += 1;
-    }
-    sum
-}
-
-// Entry i of the eight tables, from those before it.
-fn slot_at(first: &[u32; 256], t: &[u32; 2048], i: usize) -> u32
-    requires { (first.now ≡ entries) × (i < 2048) × Filled slot 2048 t.now i }
-    ensures { result ≡ slot i }
-{
-    if i < 256 {
-        first[i]
-    } else {
-        eight(first, t[i - 256])
-    }
-}
-
-// The eight tables of `update`, one after the other.
-pub fn tables() -> [u32; 2048]
-    ensures { result ≡ slots }
-{
-    let first = table();
-    let mut t = [0u32; 2048];
-    let mut i = 0;
-    while i < 2048 {
-        let v = slot_at(&first, &t, i);
-        t[i] = v;
-        i += 1;
-    }
-    t
-}
-
-// Four bytes, through the tables j to j + 3.
-fn four(t: &[u32; 2048], a: u32, j: usize) -> u32
-    requires { (t.now ≡ slots) × (j ≤ 4) }
-    ensures { result ≡ steps (32 + 8 * j) a }
-{
-    let k0 = low(a) + 256 * (j + 3);
-    let k1 = low(a >> 8) + 256 * (j + 2);
-    let k2 = low(a >> 16) + 256 * (j + 1);
-    let k3 = low(a >> 24) + 256 * j;
-    t[k0] ^ t[k1] ^ t[k2] ^ t[k3]
-}
-
-// The 64 bits of a and b after 64 steps.
-fn eight_bytes(t: &[u32; 2048], a: u32, b: u32) -> u32
-    requires { t.now ≡ slots }
-    ensures { result ≡ steps 64 (a + 4294967296 * b) }
-{
-    four(t, a, 4) ^ four(t, b, 0)
-}
-
-fn one_byte(t: &[u32; 2048], c: u32) -> u32
-    requires { t.now ≡ slots }
-    ensures { result ≡ steps 8 c }
-{
-    let k = low(c);
-    t[k] ^ (c >> 8)
-}
-
-// The sum after the bytes of s, from the sum c before them, eight bytes at a time.
-pub fn update(t: &[u32; 2048], c: u32, s: &[u8]) -> u32
-    requires { t.now ≡ slots }
-    ensures { result ≡ updated c s.now }
-{
-    let mut sum = c;
-    let mut i = 0;
-    while 8 <= s.len() - i {
-        let a = le::u32_at(s, i);
-        let b = le::u32_at(s, i + 4);
-        sum = eight_bytes(t, sum ^ a, b);
-        i += 8;
-    }
-    while i < s.len() {
-        sum = one_byte(t, sum ^ wide(s[i]));
-        i += 1;
+    for x in s {
+        sum = eight_steps(t, sum ^ u32::from(*x));
     }
     sum
 }
@@ -167,29 +151,19 @@ pub fn finish(c: u32) -> u32
     c ^ 0xffff_ffff
 }
 
-// The checksum of s, with lent tables.
-pub fn crc32_with(t: &[u32; 2048], s: &[u8]) -> u32
-    requires { t.now ≡ slots }
-    ensures { result ≡ checksum s.now }
-{
-    finish(update(t, START, s))
-}
-
 // The checksum of s.
 pub fn crc32(s: &[u8]) -> u32
     ensures { result ≡ checksum s.now }
 {
-    let t = tables();
-    crc32_with(&t, s)
+    Tables::new().crc32(s)
 }
 
 // Whether the last 4 bytes are the CRC-32 of all before them.
 pub fn ends_in_crc(s: &[u8]) -> bool
     ensures { result ≡ ends_in_crc s.now }
 {
-    if s.len() < 4 {
+    let Some((front, last)) = s.split_last_chunk::<4>() else {
         return false;
-    }
-    let end = s.len() - 4;
-    crc32(&s[..end]) == le::u32_at(s, end)
+    };
+    crc32(front) == le::u32_at(last, 0)
 }

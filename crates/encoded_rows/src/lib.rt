@@ -8,13 +8,14 @@ ghost use Rattle.format.specs.Head.{lengths_ok};
 ghost use Rattle.format.specs.Layout.{LaidOut};
 ghost use Rattle.entries.specs.Plan.{rows_ok, entry_ok};
 ghost use Rattle.quantization.specs.View.{row_bytes};
-ghost use Rattle.quantization.specs.Encoder.{Levels, midpoints, midpoints_of};
+ghost use Rattle.quantization.specs.Encoder.{midpoints_of};
 ghost use Rattle.manifest.specs.Scratch.{row_keys};
 ghost use Rattle.segment.specs.Record.{record_ok, starts_of};
 ghost use Rattle.encoded_rows.specs.Rows.{row_of, rows_bytes, lowest_bad, bad_record_refusal};
 
 use config::{Metric, Refusal};
 use format::Layout;
+use quantization::Encoder;
 
 // The lowest row whose record fails, or the row count.
 fn bad_row(m: &[u8], layout: Layout, metric: Metric, starts: &[u64; 1025], s: &[u8]) -> usize
@@ -75,25 +76,23 @@ pub fn records_refusal(
     }
 }
 
-// The row of a record that passes, at this level count, into its own part of the cache; `t` are the midpoints. Of the entries only the
-// row's own is asked to keep its rules.
+// The row of a record that passes, into its own part of the cache. Of the entries only the row's own is asked to keep its rules.
 pub fn put_row(
     m: &[u8],
     layout: Layout,
     starts: &[u64; 1025],
-    t: &[f64; 127],
-    levels: u32,
+    encoder: &Encoder,
     s: &[u8],
     part: &mut [u8],
     row: usize,
 )
-    requires { LaidOut m.now layout × (lengths_ok m.now ≡ true) × (starts.now ≡ starts_of m.now) × (t.now ≡ midpoints) × Levels levels
+    requires { LaidOut m.now layout × (lengths_ok m.now ≡ true) × (starts.now ≡ starts_of m.now)
         × (row < layout.rows) × (entry_ok m.now row ≡ true) × (record_ok m.now s.now row ≡ true)
         × (length part.old ≡ dimensions_of m.now + 16) }
-    ensures { part.new ≡ row_bytes (row_of levels (midpoints_of levels) m.now s.now row) }
+    ensures { part.new ≡ row_bytes (row_of encoder.now.levels (midpoints_of encoder.now.levels) m.now s.now row) }
 {
     let at = segment::record_at(m, layout, starts, row);
-    quantization::encode_row(t, levels, s, at + 12, part);
+    encoder.encode_row(s, at + 12, part);
 }
 
 // The rows of a library whose records all pass, one after the other, each of `size` bytes, from a place of the cache on.
@@ -101,23 +100,22 @@ pub fn put_rows(
     m: &[u8],
     layout: Layout,
     starts: &[u64; 1025],
-    t: &[f64; 127],
-    levels: u32,
+    encoder: &Encoder,
     s: &[u8],
     cache: &mut [u8],
     at: usize,
     size: usize,
 )
-    requires { LaidOut m.now layout × (rows_ok m.now ≡ true) × (starts.now ≡ starts_of m.now) × (t.now ≡ midpoints) × Levels levels
+    requires { LaidOut m.now layout × (rows_ok m.now ≡ true) × (starts.now ≡ starts_of m.now)
         × (lowest_bad m.now s.now ≡ rows_of m.now) × (size ≡ dimensions_of m.now + 16)
         × (at + rows_of m.now * size ≤ length cache.old) }
-    ensures { cache.new ≡ paste cache.old at (rows_bytes levels (midpoints_of levels) m.now s.now (rows_of m.now)) }
+    ensures { cache.new ≡ paste cache.old at (rows_bytes encoder.now.levels (midpoints_of encoder.now.levels) m.now s.now (rows_of m.now)) }
 {
     let mut from = at;
     let mut row = 0;
     while row < layout.rows {
         let end = from + size;
-        put_row(m, layout, starts, t, levels, s, &mut cache[from..end], row);
+        put_row(m, layout, starts, encoder, s, &mut cache[from..end], row);
         from = end;
         row += 1;
     }

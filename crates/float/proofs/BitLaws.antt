@@ -6,7 +6,7 @@ use Prim.Native.Nat.{ℕ, zero, suc, ◌+◌, ◌*◌, ◌/◌, ◌%◌, ◌^◌
 use native.Mathlib.Omega.{arith}
 use borrow.Author.Tests.{ne_eqb, lt-ltb, le-ltb, ltb-false}
 use lib.Dec.{T, leb, eqb}
-use lib.Ieee.{Float, nan, inf, fin, Format, prec, low, hid, top, ones, odd, of_fields, of_bits, to_bits, nan_bits, is_nan, binary32, binary64, fits, div, lt, ne}
+use lib.Ieee.{Float, nan, inf, fin, Format, prec, low, hid, top, ones, odd, of_fields, of_bits, to_bits, nan_bits, is_nan, binary32, binary64, fits, lt, ne}
 use lib.Ieee.Exact.{HasValue, odd_sign}
 use lib.Ieee.Fits.{and_i, fits_widens}
 use lib.Ieee.Bits.{is_true, is_false, nan_bits_is, nan_bits_above, of_bits-fits, of_bits-to_bits, to_bits-lt}
@@ -14,7 +14,8 @@ use lib.Ieee.Scale.{finite}
 use Rattle.le.proofs.Chain.{by}
 use Rattle.float.specs.Values.{number}
 use Rattle.float.specs.Order.{negative}
-use Rattle.float.specs.declared.Number.TheVariants.{Finite, NonFinite}
+use Rattle.std.specs.Prelude.{Some, None}
+use Rattle.std.specs.Float.{float_is_finite}
 
 -- ---- what a value a / c with the sign s is
 pub value_finite : (x : Float) (s : Bool) (a c : ℕ) → HasValue x s a c → T (finite x)
@@ -48,15 +49,14 @@ pub finite_bits : (f : Format) (b : ℕ) → finite (of_bits f b) ≡ not (eqb (
 unfolding of_bits
 finite_bits f b = fields_finite f (leb (top f) b) (field f b) (b % hid f)
 
--- of a value: it lies between the infinities
-pub finite_between : (x : Float) → (lt (inf true) x && lt x (inf false)) ≡ finite x
-unfolding lt
-finite_between nan = refl
-finite_between (inf true) = refl
-finite_between (inf false) = refl
-finite_between (fin s m e) = refl
+-- as std's `is_finite` says it
+pub same_finite : (x : Float) → float_is_finite x ≡ finite x
+unfolding float_is_finite
+same_finite nan = refl
+same_finite (inf s) = refl
+same_finite (fin s m e) = refl
 
--- and one that is above another lies below the greater
+-- a value that is above another is finite where it lies below the upper infinity
 pub finite_over : (b x : Float) → (lt b x && lt x (inf false)) ≡ (lt b x && finite x)
 unfolding lt
 finite_over nan x = refl
@@ -72,13 +72,13 @@ finite_over (fin s m e) (inf false) = refl
 finite_over (fin s m e) (fin t n d) = refl
 
 -- ---- what a caller is told
-pub number_finite : (x : Float) → finite x ≡ true → number x ≡ Finite x
+pub number_finite : (x : Float) → finite x ≡ true → number x ≡ Some x
 unfolding number
 number_finite nan h = absurd (false≢true h)
 number_finite (inf s) h = absurd (false≢true h)
 number_finite (fin s m e) h = refl
 
-pub number_not : (x : Float) → finite x ≡ false → number x ≡ NonFinite
+pub number_not : (x : Float) → finite x ≡ false → number x ≡ None
 unfolding number
 number_not nan h = refl
 number_not (inf s) h = refl
@@ -140,10 +140,10 @@ pub widens : (b : ℕ) → T (not (nan_bits binary32 b)) → T (fits binary64 (o
 widens b h =
     and_i (fits binary64 (of_bits binary32 b)) (not (is_nan (of_bits binary32 b))) (fits_widens (of_bits binary32 b) (of_bits-fits binary32 b)) (rw (nan_bits_is binary32 b) at h)
 
--- 0.0 / 0.0
-pub quiet : div binary64 (of_bits binary64 0) (of_bits binary64 0) ≡ nan
-unfolding div of_bits
-quiet = refl
+-- `f64::NAN`
+pub not_number : of_bits binary64 9221120237041090560 ≡ nan
+unfolding of_bits
+not_number = refl
 
 -- ---- what is known of x is known of what its bits stand for
 pub through_bits : (P : Float → Type 0) (x : Float) → fits binary64 x ≡ true → P (of_bits binary64 (to_bits binary64 x)) → P x

@@ -1,8 +1,6 @@
 -- Constants, four values, a number without its sign, and what a float that was read from bytes is to a caller.
-use Rattle.std.specs.Prelude.{List, [], ◌∷◌, ℕ, pos, false, Float}
+use Rattle.std.specs.Prelude.{List, [], ◌∷◌, ℕ, pos, false, Float, Option, Some, None}
 use Rattle.std.specs.Float.{nan, inf, fin}
-use Rattle.float.specs.declared.Number.{Number}
-use Rattle.float.specs.declared.Number.TheVariants.{Finite, NonFinite}
 
 -- +0, 1 and 2 (document 01, The arithmetic: "at least 0, a NaN becoming +0", "Cosine is 1 - ..", "held in 0..2")
 abbrev pub plus_zero : Float
@@ -26,7 +24,7 @@ abs (fin s m e) = fin false m e
 
 -- a finite number or none (document 01, What each place turns away: "coordinates (non-finite, ..)" at 5, "non-finite
 -- value" at 16)
-unfoldable pub number : Float → Number
-number nan = NonFinite
-number (inf s) = NonFinite
-number (fin s m e) = Finite (fin s m e)
+unfoldable pub number : Float → Option Float
+number nan = None
+number (inf s) = None
+number (fin s m e) = Some (fin s m e)

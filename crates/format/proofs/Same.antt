@@ -1,15 +1,14 @@
 -- The head test of a search: its comparison is equality, and against an accepted head it is document 01's sentence on 21.
 use mathlib.Core.Path.{◌≡◌, refl, sym, ap, ◌∙◌}
-use mathlib.Core.Bool.{true, ◌&&◌}
+use mathlib.Core.Bool.{true}
 use mathlib.Core.Logic.{◌↔◌}
 use mathlib.Core.List.{List, [], ◌∷◌}
 use Prim.Native.Nat.{ℕ, zero, suc, ◌+◌, ◌-◌, ◌≤◌, ◌<◌}
-use native.Mathlib.Numerals.{add-one}
 use native.Mathlib.Omega.{arith}
 use lib.Dec.{eqb}
 use borrow.Author.Tests.{eq-eqb, eqb-true, leb-true, le-leb}
-use lib.ListN.{length, get_or, take, drop, replicate, length-drop, drop_of_length-le, take-append-drop}
-use lib.Seq.{drop-cons, take-add, take-suc, take_at, length-take-le, get_or-take}
+use lib.ListN.{length, get_or, take, drop, replicate, length-drop, take-append-drop}
+use lib.Seq.{take-add, take-suc, take_at, length-take-le, get_or-take}
 use Rattle.le.specs.Le.{le, le_at, bytes}
 use Rattle.le.proofs.LeLaws.{AllBytes, bytes_le, take_bytes, drop_bytes}
 use Rattle.le.proofs.Pastes.{part-before}
@@ -27,28 +26,15 @@ use Rattle.format.specs.declared.Head.{Head}
 use Rattle.format.proofs.First.{each_passes, all_pass}
 use Rattle.format.proofs.Heads.{both, headed, in_range, bounds}
 
--- ---- two lists, one element after the other
-
-pub bytes_turn : (a b : List ℕ) (i : ℕ) → i < length a → i < length b
-    → same_bytes (drop i a) (drop i b) ≡ (eqb (get_or a i 0) (get_or b i 0) && same_bytes (drop (i + 1) a) (drop (i + 1) b))
-unfolding same_bytes
-bytes_turn a b i h k = rw (add-one i, drop-cons a i 0 h, drop-cons b i 0 k)
-
-pub bytes_done : (a b : List ℕ) (i : ℕ) → length a ≤ i → length b ≤ i → same_bytes (drop i a) (drop i b) ≡ true
-unfolding same_bytes
-bytes_done a b i h k = rw (drop_of_length-le a h, drop_of_length-le b k)
-
 -- ---- the comparison is equality
 
 pub bytes_eq : (a b : List ℕ) → same_bytes a b ≡ true → a ≡ b
-unfolding same_bytes
 bytes_eq [] [] h = refl
 bytes_eq (x ∷ a) (y ∷ b) h = let p = both {a = eqb x y} h in rw (eqb-true x y p.0, bytes_eq a b p.1)
 bytes_eq [] (y ∷ b) h = let z : ◌≡◌ {A = ℕ} 0 1 = cc in absurd (omega arith)
 bytes_eq (x ∷ a) [] h = let z : ◌≡◌ {A = ℕ} 0 1 = cc in absurd (omega arith)
 
 pub bytes_refl : (a : List ℕ) → same_bytes a a ≡ true
-unfolding same_bytes
 bytes_refl [] = refl
 bytes_refl (x ∷ a) = rw (eq-eqb x x refl, bytes_refl a)
 

@@ -2,13 +2,12 @@
 -- metric byte (0 squared L2, 1 cosine, 2 inner product); model length u32 (1 to 512) and UTF-8 model; segment count u32 (at most 1024);
 -- row count u64 (at most 1,000,000); per segment length u64 and CRC u32; per row id u64, segment, offset, metadata length u32; CRC-32 of
 -- all before it").
-use Rattle.std.specs.Prelude.{List, [], ◌∷◌, ℕ, ◌+◌, ◌-◌, ◌*◌, length, get_or, take, drop}
+use Rattle.std.specs.Prelude.{List, [], ◌∷◌, ℕ, ◌+◌, ◌-◌, ◌*◌, length, get_or, take, drop, Result, Ok, Err}
 use Rattle.le.specs.Le.{le_at}
 use Rattle.config.specs.Metric.{metric_of}
 use Rattle.config.specs.declared.Metric.{Metric}
 use Rattle.config.specs.declared.Metric.TheVariants.{SquaredL2}
-use Rattle.config.specs.declared.MetricAnswer.{MetricAnswer}
-use Rattle.config.specs.declared.MetricAnswer.TheVariants.{Known, Refused}
+use Rattle.config.specs.declared.UnknownMetric.{UnknownMetric}
 
 -- "VECGEN01"
 abbrev pub magic : List ℕ
@@ -36,9 +35,9 @@ unfoldable pub metric_byte : List ℕ → ℕ
 metric_byte m = get_or m 44 0
 
 -- the metric of a byte; a byte that names none is refused by `kind_ok`, and SquaredL2 only makes the function total
-abbrev pub metric_in : MetricAnswer → Metric
-metric_in (Known metric) = metric
-metric_in (Refused r) = SquaredL2
+abbrev pub metric_in : Result Metric UnknownMetric → Metric
+metric_in (Ok metric) = metric
+metric_in (Err unknown) = SquaredL2
 
 unfoldable pub metric_at : List ℕ → Metric
 metric_at m = metric_in (metric_of (metric_byte m))

@@ -1,17 +1,15 @@
 -- The head test of a search (document 01, What each place turns away, 21: "in the head, the manifest's length or a field before its segments differs from
 -- what was accepted, or a segment length is outside 4 to 67,108,864"). Readings R3: the lent head is read anew with the rules of 1 and 2,
 -- then compared; R4: every field of the head is compared, a segment length is only held in its bounds.
-use Rattle.std.specs.Prelude.{Bool, true, false, ◌&&◌, List, [], ◌∷◌, ℕ, eqb}
+use Rattle.std.specs.Prelude.{Bool, ◌&&◌, List, ℕ, eqb}
+use Rattle.std.specs.Cmp.Lexicographic.{pointwise}
 use Rattle.config.specs.Metric.{byte_of}
 use Rattle.config.specs.declared.Config.{Config}
 use Rattle.format.specs.Head.{head_number, head_at, lengths_ok}
 use Rattle.format.specs.declared.Head.{Head}
 
-unfoldable pub same_bytes : List ℕ → List ℕ → Bool
-same_bytes [] [] = true
-same_bytes (x ∷ a) (y ∷ b) = eqb x y && same_bytes a b
-same_bytes [] (y ∷ b) = false
-same_bytes (x ∷ a) [] = false
+abbrev pub same_bytes : List ℕ → List ℕ → Bool
+same_bytes = pointwise eqb
 
 -- metrics are compared by their bytes
 unfoldable pub same_config : Config → Config → Bool

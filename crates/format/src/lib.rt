@@ -8,15 +8,15 @@ ghost use Rattle.config.specs.Metric.{metric_of};
 ghost use Rattle.format.specs.Fields.{length_of_model, metric_in, metric_at, length_of, crc_of};
 ghost use Rattle.format.specs.Head.{opens_ok, kind_ok, identity_ok, counts_ok, head_number, bad_length, lengths_ok, config_at, head_at, zero_head};
 ghost use Rattle.format.specs.Layout.{LaidOut};
-ghost use Rattle.format.specs.Same.{same_bytes, same_config, same_fields, is_same_head};
+ghost use Rattle.format.specs.Same.{same_bytes, same_fields, is_same_head};
 
-use config::{Config, Metric, MetricAnswer};
+use config::{Config, Metric};
 
 // "VECGEN01"
 const MAGIC: u64 = 0x3130_4e45_4743_4556;
 
 // The manifest's length and every field before its segment table: what a search compares.
-#[derive(Clone, Copy)]
+#[derive(Clone, Copy, Debug, PartialEq, Eq)]
 pub struct Head {
     pub length: usize,
     pub generation: u64,
@@ -63,11 +63,7 @@ fn span(low: usize, high: usize, x: usize) -> bool
 pub fn metric_of(b: u8) -> Metric
     ensures { result ≡ metric_in (metric_of b) }
 {
-    let answer = Metric::from_byte(b);
-    match answer {
-        MetricAnswer::Known(known) => known,
-        MetricAnswer::Refused(refusal) => Metric::SquaredL2,
-    }
+    Metric::try_from(b).unwrap_or(Metric::SquaredL2)
 }
 
 pub fn metric(m: &[u8]) -> Metric
@@ -277,51 +273,18 @@ pub fn lengths_hold(m: &[u8], layout: Layout) -> bool
 
 // ---- What a search compares.
 
-fn same_config(a: Config, b: Config) -> bool
-    ensures { result ≡ same_config a b }
-{
-    let p = a.metric;
-    let q = b.metric;
-    (a.dimensions == b.dimensions)
-        & (a.m == b.m)
-        & (a.ef_construction == b.ef_construction)
-        & (a.seed == b.seed)
-        & (p.byte() == q.byte())
-}
-
 // Whether the bytes at a place are these.
 pub fn same_bytes_at(c: &[u8], at: usize, s: &[u8]) -> bool
     requires { at + length s.now ≤ length c.now }
     ensures { result ≡ same_bytes (take (length s.now) (drop at c.now)) s.now }
 {
-    let mut same = true;
-    let mut i = 0;
-    while i < s.len() {
-        same = same & (c[at + i] == s[i]);
-        i += 1;
-    }
-    same
-}
-
-fn same_model(a: [u8; 512], b: [u8; 512]) -> bool
-    ensures { result ≡ same_bytes a b }
-{
-    same_bytes_at(&a, 0, &b)
+    &c[at..at + s.len()] == s
 }
 
 fn same_fields(a: Head, b: Head) -> bool
     ensures { result ≡ same_fields a b }
 {
-    let p = a.model;
-    let q = b.model;
-    (a.length == b.length)
-        & (a.generation == b.generation)
-        & (a.sequence == b.sequence)
-        & same_config(a.config, b.config)
-        & (a.model_length == b.model_length)
-        & same_model(p, q)
-        & (a.segments == b.segments)
-        & (a.rows == b.rows)
+    a == b
 }
 
 // Whether the head passes its tests anew and is the accepted one, and the segment lengths are in their bounds.

@@ -13,7 +13,7 @@ ghost use Rattle.front.specs.Query.{Read};
 
 use config::Refusal;
 use format::{Head, Layout};
-use quantization::Row;
+use quantization::{Encoder, Row};
 use search_spec::Room;
 
 // ---- The tests up to 20.
@@ -151,7 +151,7 @@ pub fn read_query(levels: u32, query: &[f32], codes: &mut [i16], wide: &mut [f64
     ensures { Read levels query.now codes.new wide.new result }
 {
     let t = quantization::midpoints_table();
-    let row = quantization::encode_query(&t, levels, query, codes);
+    let row = Encoder::new(&t, levels).encode_query(query, codes);
     math::widen(query, wide);
     let n = query.len();
     let norm = row.norm;

@@ -11,10 +11,13 @@ use std::io::{Error, Result, Write};
 
 fn print(rt: &HostRuntime, folder: &[u8]) -> Result<()> {
     let mut out = listing_text::buffer();
-    let n = files::list(rt, folder, &mut out);
-    rt.stdout()
-        .write_all(&out[..n])
-        .map_err(|e| Error::new(e.kind(), "the list is not whole"))
+    match files::list(rt, folder, &mut out) {
+        Ok(n) => rt
+            .stdout()
+            .write_all(&out[..n])
+            .map_err(|e| Error::new(e.kind(), "the list is not whole")),
+        Err(files::Failed) => Ok(()),
+    }
 }
 
 fn main(rt: HostRuntime) -> Result<()> {

@@ -2,6 +2,7 @@
 use mathlib.Core.Path.{◌≡◌, sym}
 use mathlib.Core.List.{List}
 use Prim.Native.Nat.{ℕ, ◌/◌}
+use Rattle.std.specs.Prelude.{Result}
 use lib.Ieee.{Float}
 use lib.ListN.{length, take, drop}
 use lib.Seq.{take_at}
@@ -13,7 +14,7 @@ use Rattle.search_spec.specs.Lent.{call_of, every}
 use Rattle.listing_text.specs.Listing.{refusal_text}
 use Rattle.listing_input.specs.Files.{Files, input_of}
 use Rattle.listing_input.specs.Parts.{query_of, k_of, limit_of}
-use Rattle.listing_input.specs.declared.Input.{Input}
+use Rattle.listing_input.specs.declared.InputError.{InputError}
 use Rattle.listing.specs.Output.{lent_answers, lent_work, call_on, admission, found, list_refusal, answer_text, list_answer, text_of, output}
 
 pub query_read : (d : List Float) (query : List ℕ) → take (length query / 4) (paste d 0 (query_of query)) ≡ query_of query
@@ -33,6 +34,6 @@ pub found-answer : (f : Files) → (admission f).refusal.number ≡ 0 → answer
 unfolding list_answer list_refusal
 found-answer f e = rw (then_rest (admission f).refusal (found f).refusal e)
 
-pub output-is : (f : Files) (i : Input) → input_of f ≡ i → text_of i (list_answer f) ≡ output f
+pub output-is : (f : Files) (i : Result (Unit {0}) InputError) → input_of f ≡ i → text_of i (list_answer f) ≡ output f
 unfolding output
 output-is f i e = rw e

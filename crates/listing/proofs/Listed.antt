@@ -36,7 +36,7 @@ use Rattle.search_spec.proofs.Reports.{few-eligible, list_count}
 use Rattle.search_spec.proofs.Keys.{late, records_each}
 use Rattle.listing_text.specs.Listing.{refusal_text, listing, Numbers, most_places, line_of, lines_of}
 use Rattle.listing_text.proofs.Lines.{lines_of-pasted}
-use Rattle.listing_input.specs.Files.{max_file_bytes}
+use Rattle.listing_input.specs.Parts.{max_file_bytes}
 use Rattle.listing.specs.Output.{answer_text}
 use Rattle.listing.proofs.Most.{rows-most}
 use Rattle.listing.proofs.Lent.{Alike}

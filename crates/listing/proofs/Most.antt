@@ -13,7 +13,7 @@ use Rattle.format.specs.Fields.{generation_of, length_of_model, segments_of, row
 use Rattle.format.specs.Head.{counts_ok, head_number}
 use Rattle.format.proofs.Heads.{both, headed, bounds}
 use Rattle.listing_text.specs.Listing.{most_places}
-use Rattle.listing_input.specs.Files.{max_file_bytes}
+use Rattle.listing_input.specs.Parts.{max_file_bytes}
 
 -- a library with rows has a segment
 some-segment : (rows segments : ℕ) → cond (eqb rows 0) (eqb segments 0) (not (eqb segments 0)) ≡ true → (rows ≡ 0 → ⊥) → segments ≡ 0 → ⊥

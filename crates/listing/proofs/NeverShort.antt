@@ -6,6 +6,7 @@ use Prim.Native.Nat.{ℕ, ◌+◌, ◌≤◌}
 use lib.Dec.{eqb, leb}
 use lib.Ieee.{Float, nan, inf, fin}
 use lib.Ieee.Scale.{finite}
+use Rattle.std.specs.Prelude.{Ok}
 use lib.ListN.{length, get_or}
 use borrow.Author.Tests.{eqb-true, le-leb}
 use Rattle.le.proofs.Chain.{by}
@@ -41,10 +42,9 @@ use Rattle.search_spec.specs.Tests.{query_ok, most_ok, limit_ok, open_by, query_
 use Rattle.search_spec.specs.Outcome.{late_refusal, outcome_by, searched}
 use Rattle.search_spec.specs.Kept.{cached_rows}
 use Rattle.listing_text.specs.Listing.{most_places}
-use Rattle.listing_input.specs.Files.{Files, max_file_bytes, input_of}
-use Rattle.listing_input.specs.declared.Input.TheVariants.{Whole}
-use Rattle.listing_input.proofs.Whole.{whole}
-use Rattle.listing_input.specs.Parts.{query_of, k_of, limit_of, platform_of, root_part}
+use Rattle.listing_input.specs.Files.{Files, bytes_of, input_of}
+use Rattle.listing_input.proofs.Short.{whole-short}
+use Rattle.listing_input.specs.Parts.{max_file_bytes, query_of, k_of, limit_of, platform_of, root_part}
 use Rattle.listing.specs.Output.{admitted, call_on, admission, found, list_refusal, NeverShort}
 use Rattle.listing.proofs.Most.{rows-most}
 use Rattle.listing.proofs.Lent.{full, full_ok, lent-room}
@@ -179,32 +179,32 @@ front-other head m query k limit h =
     (λ e. rw e (record { no_11 = refl; no_20 = refl }))
 
 -- ---- of files
-admission-shown : (f : Files) → length f.manifest.bytes ≤ max_file_bytes → Shown (admission f).refusal
+admission-shown : (f : Files) → length (bytes_of f.manifest) ≤ max_file_bytes → Shown (admission f).refusal
 unfolding admission admitted opened_by checked_by
 admission-shown f h =
-    let m = f.manifest.bytes in
-    let s = f.segments.bytes in
+    let m = bytes_of f.manifest in
+    let s = bytes_of f.segments in
     let crc = stored_crc m in
-    let place = f.place.bytes in
-    let opening = open_refusal m crc most_places f.cache.bytes (platform_of place) (root_part place) default_options in
+    let place = bytes_of f.place in
+    let opening = open_refusal m crc most_places (bytes_of f.cache) (platform_of place) (root_part place) default_options in
     then_shown (refused (manifest_number m crc most_places) 0) (then_refusal (library_refusal m crc most_places s) opening) (manifest-other m crc h)
-    (then_shown (library_refusal m crc most_places s) opening (library_shown m crc s h) (open_shown m crc f.cache.bytes (platform_of place) (root_part place) default_options h))
+    (then_shown (library_refusal m crc most_places s) opening (library_shown m crc s h) (open_shown m crc (bytes_of f.cache) (platform_of place) (root_part place) default_options h))
 
-found-shown : (f : Files) → length f.manifest.bytes ≤ max_file_bytes → Shown (found f).refusal
+found-shown : (f : Files) → length (bytes_of f.manifest) ≤ max_file_bytes → Shown (found f).refusal
 unfolding found call_on searched outcome_by
 found-shown f h =
-    let m = f.manifest.bytes in
-    let query = query_of f.query.bytes in
-    let call = f.call.bytes in
-    let c = call_on m f.segments.bytes f.query.bytes call in
+    let m = bytes_of f.manifest in
+    let query = query_of (bytes_of f.query) in
+    let call = bytes_of f.call in
+    let c = call_on m (bytes_of f.segments) (bytes_of f.query) call in
     let state = (admission f).state in
-    let rows = cached_rows m state f.cache.bytes in
+    let rows = cached_rows m state (bytes_of f.cache) in
     then_shown (refused (front_number state.head c) 0) (late_refusal rows c (candidate_rows rows c))
     (rw lent-room (front-other state.head m query (k_of call) (limit_of call) h)) (late-shown rows c (candidate_rows rows c))
 
 pub never_short : (f : Files) → NeverShort f
 unfolding list_refusal
 never_short f =
-    let shown : input_of f ≡ Whole → Shown (list_refusal f) =
-    λ e. let l = (whole f e).manifest.short in then_shown (admission f).refusal (found f).refusal (admission-shown f l) (found-shown f l) in
+    let shown : input_of f ≡ Ok tt → Shown (list_refusal f) =
+    λ e. let l = (whole-short f e).manifest in then_shown (admission f).refusal (found f).refusal (admission-shown f l) (found-shown f l) in
     record { no_11 = λ e. (shown e).no_11; no_20 = λ e. (shown e).no_20 }

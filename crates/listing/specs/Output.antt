@@ -1,6 +1,6 @@
 -- What the list program prints (document 01, Contracts and proved cases: it "expects the manifest's own CRC and uses the default options. It
 -- checks manifest and segments, opens, then searches all ids").
-use Rattle.std.specs.Prelude.{◌≡◌, false, List, [], map, ℕ, eqb, replicate}
+use Rattle.std.specs.Prelude.{◌≡◌, false, List, [], map, ℕ, eqb, replicate, Result, Ok, Err}
 use Rattle.float.specs.Values.{plus_zero}
 use Rattle.config.specs.Refusal.{then_refusal, unless_refused}
 use Rattle.config.specs.declared.Refusal.{Refusal}
@@ -16,10 +16,10 @@ use Rattle.search_spec.specs.declared.Place.{Place}
 use Rattle.search_spec.specs.declared.Report.{Report}
 use Rattle.search_spec.specs.Kept.{cached}
 use Rattle.listing_text.specs.Listing.{too_long, bad_input, refusal_text, listing, line_of, most_places}
-use Rattle.listing_input.specs.Files.{Files, input_of}
+use Rattle.listing_input.specs.Files.{Files, bytes_of, input_of}
 use Rattle.listing_input.specs.Parts.{query_of, k_of, limit_of, platform_of, root_part}
-use Rattle.listing_input.specs.declared.Input.{Input}
-use Rattle.listing_input.specs.declared.Input.TheVariants.{TooLong, BadInput, Whole}
+use Rattle.listing_input.specs.declared.InputError.{InputError}
+use Rattle.listing_input.specs.declared.InputError.TheVariants.{TooLong, BadInput}
 
 -- the three checks in their order, and the state of the cache where none refuses (readings R37: "The manifest is tested three times")
 unfoldable pub admitted : List ℕ → List ℕ → List ℕ → List ℕ → List ℕ → Opened
@@ -45,11 +45,11 @@ call_on m s query call = call_of m s every (query_of query) (k_of call) (limit_o
 -- the admission of whole files, and the search's outcome
 unfoldable pub admission : Files → Opened
 admission f =
-    let place = f.place.bytes in
-    admitted f.manifest.bytes f.segments.bytes f.cache.bytes (platform_of place) (root_part place)
+    let place = bytes_of f.place in
+    admitted (bytes_of f.manifest) (bytes_of f.segments) (bytes_of f.cache) (platform_of place) (root_part place)
 
 unfoldable pub found : Files → Outcome
-found f = cached (admission f).state f.cache.bytes (call_on f.manifest.bytes f.segments.bytes f.query.bytes f.call.bytes)
+found f = cached (admission f).state (bytes_of f.cache) (call_on (bytes_of f.manifest) (bytes_of f.segments) (bytes_of f.query) (bytes_of f.call))
 
 unfoldable pub list_refusal : Files → Refusal
 list_refusal f = then_refusal (admission f).refusal (found f).refusal
@@ -62,15 +62,15 @@ unfoldable pub list_answer : Files → List ℕ
 list_answer f = answer_text (list_refusal f) (found f).report (found f).list
 
 -- "`too long` alone", "`bad input` alone", or what the whole files give
-abbrev pub text_of : Input → List ℕ → List ℕ
-text_of TooLong whole = too_long
-text_of BadInput whole = bad_input
-text_of Whole whole = whole
+abbrev pub text_of : Result (Unit {0}) InputError → List ℕ → List ℕ
+text_of (Err TooLong) whole = too_long
+text_of (Err BadInput) whole = bad_input
+text_of (Ok _) whole = whole
 
 unfoldable pub output : Files → List ℕ
 output f = text_of (input_of f) (list_answer f)
 
 -- readings R37: "slices are sized so that 11 and 20 never show"
 pub record NeverShort (f : Files) : Type 0 where
-  pub no_11 : input_of f ≡ Whole → eqb (list_refusal f).number 11 ≡ false
-  pub no_20 : input_of f ≡ Whole → eqb (list_refusal f).number 20 ≡ false
+  pub no_11 : input_of f ≡ Ok tt → eqb (list_refusal f).number 11 ≡ false
+  pub no_20 : input_of f ≡ Ok tt → eqb (list_refusal f).number 20 ≡ false

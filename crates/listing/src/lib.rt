@@ -1,7 +1,7 @@
 // The list program's output, from the bytes of its files.
 #![tactic(auto)]
 
-ghost use Rattle.std.specs.Prelude.{◌≡◌, ◌≤◌, ◌<◌, length};
+ghost use Rattle.std.specs.Prelude.{◌≡◌, ◌≤◌, length};
 ghost use Rattle.io.specs.Counts.{IsPrefixLen};
 ghost use Rattle.text.specs.Put.{Put};
 ghost use Rattle.format.specs.Fields.{stored_crc};
@@ -9,44 +9,19 @@ ghost use Rattle.quantized_cache.specs.Open.{zero_cache_state};
 ghost use Rattle.search_spec.specs.Lent.{call_of, every};
 ghost use Rattle.search_spec.specs.Kept.{cached};
 ghost use Rattle.listing_text.specs.Listing.{most_places, listing_bytes};
-ghost use Rattle.listing_input.specs.Files.{max_file_bytes, files_of};
-ghost use Rattle.listing_input.specs.declared.There.{There};
-ghost use Rattle.listing_input.specs.Parts.{newline_at};
+ghost use Rattle.listing_input.specs.Files.{files_of, all_of};
+ghost use Rattle.listing_input.specs.Parts.{max_file_bytes};
 ghost use Rattle.listing.specs.Output.{admitted, lent_answers, lent_work, call_on, answer_text, list_answer as answer_of, output};
 
 use cache_format::Options;
 use config::Refusal;
-use listing_input::{Input, There};
+use listing_input::{Input, InputError, Whole};
 use listing_text::{LISTING_BYTES, MOST_PLACES};
 use quantized_cache::{CacheState, Opened};
+use text::Writer;
 
 // The f32s of a QUERY of 65,536 bytes.
 const MOST_VALUES: usize = 16_384;
-
-// Zeros. Only their number is known to a caller: one that made them in place would have their list in its proof.
-fn numbers() -> [u64; MOST_PLACES]
-    ensures { most_places ≡ length result }
-{
-    [0; MOST_PLACES]
-}
-
-fn distances() -> [f64; MOST_PLACES]
-    ensures { most_places ≡ length result }
-{
-    [0.0; MOST_PLACES]
-}
-
-fn lengths() -> [u32; MOST_PLACES]
-    ensures { most_places ≡ length result }
-{
-    [0; MOST_PLACES]
-}
-
-fn singles() -> [f32; MOST_VALUES]
-    ensures { 16384 ≡ length result }
-{
-    [0.0; MOST_VALUES]
-}
 
 // The CRC-32 that a manifest ends in; one that is too short for it is refused whatever is expected.
 fn own_crc(m: &[u8]) -> u32
@@ -77,7 +52,7 @@ fn admit(manifest: &[u8], segments: &[u8], cache: &[u8], platform: &[u8], root: 
     ensures { result ≡ admitted manifest.now segments.now cache.now platform.now root.now }
 {
     let crc = own_crc(manifest);
-    let mut scratch = numbers();
+    let mut scratch: [u64; MOST_PLACES] = text::zeros();
     let first = manifest::check(manifest, crc, &mut scratch);
     let refusal = first.refusal;
     if refusal.number != 0 {
@@ -115,13 +90,13 @@ fn search(
         Put out.old out.new 0 (answer_text o.refusal o.report o.list) result }
     ensures prefix_len { IsPrefixLen result out.new }
 {
-    let mut keys = numbers();
-    let mut candidates = numbers();
-    let mut ids = numbers();
-    let mut distances = distances();
-    let mut rows = numbers();
-    let mut starts = numbers();
-    let mut lengths = lengths();
+    let mut keys: [u64; MOST_PLACES] = text::zeros();
+    let mut candidates: [u64; MOST_PLACES] = text::zeros();
+    let mut ids: [u64; MOST_PLACES] = text::zeros();
+    let mut distances: [f64; MOST_PLACES] = text::zeros();
+    let mut rows: [u64; MOST_PLACES] = text::zeros();
+    let mut starts: [u64; MOST_PLACES] = text::zeros();
+    let mut lengths: [u32; MOST_PLACES] = text::zeros();
     let r = search::cached(
         state,
         manifest,
@@ -147,31 +122,23 @@ fn search(
 }
 
 // The same with QUERY and CALL as they are read.
-fn find(
-    state: CacheState,
-    manifest: &[u8],
-    segments: &[u8],
-    cache: &[u8],
-    query: &[u8],
-    call: &[u8],
-    out: &mut [u8],
-) -> usize
-    requires { (length manifest.now ≤ max_file_bytes) × (length query.now ≤ max_file_bytes) × (length call.now ≡ 8)
-        × (listing_bytes ≤ length out.old) }
-    ensures fact { let o = cached state cache.now (call_on manifest.now segments.now query.now call.now) in
+fn find(state: CacheState, files: &Whole, out: &mut [u8]) -> usize
+    requires { listing_bytes ≤ length out.old }
+    ensures fact { let f = files.now in
+        let o = cached state f.cache.now (call_on f.manifest.now f.segments.now f.query.now f.call.now) in
         Put out.old out.new 0 (answer_text o.refusal o.report o.list) result }
     ensures prefix_len { IsPrefixLen result out.new }
 {
-    let mut values = singles();
-    listing_input::read_query(query, &mut values);
-    let n = query.len() / 4;
-    let k = le::u32_at(call, 0);
-    let limit = le::u32_at(call, 4);
+    let mut values: [f32; MOST_VALUES] = text::zeros();
+    listing_input::read_query(files.query, &mut values);
+    let n = files.query.len() / 4;
+    let k = le::u32_at(files.call, 0);
+    let limit = le::u32_at(files.call, 4);
     search(
         state,
-        manifest,
-        segments,
-        cache,
+        files.manifest,
+        files.segments,
+        files.cache,
         &values[..n],
         k as usize,
         limit as usize,
@@ -180,49 +147,47 @@ fn find(
 }
 
 // Of whole files: the admission, and the search if nothing is refused.
-fn answer(
-    manifest: &[u8],
-    segments: &[u8],
-    cache: &[u8],
-    query: &[u8],
-    call: &[u8],
-    place: &[u8],
-    out: &mut [u8],
-) -> usize
-    requires { (length manifest.now ≤ max_file_bytes) × (length query.now ≤ max_file_bytes) × (length call.now ≡ 8)
-        × (newline_at place.now < length place.now) × (listing_bytes ≤ length out.old) }
-    ensures put { (there : There) → Put out.old out.new 0 (answer_of (files_of there manifest.now segments.now cache.now query.now call.now place.now)) result }
+fn answer(files: &Whole, out: &mut [u8]) -> usize
+    requires { listing_bytes ≤ length out.old }
+    ensures put { Put out.old out.new 0 (answer_of (all_of files.now)) result }
     ensures prefix_len { IsPrefixLen result out.new }
 {
-    let n = listing_input::newline_at(place);
+    let n = files.newline;
     let from = n + 1;
-    let opened = admit(manifest, segments, cache, &place[..n], &place[from..]);
+    let opened = admit(
+        files.manifest,
+        files.segments,
+        files.cache,
+        &files.place[..n],
+        &files.place[from..],
+    );
     let refusal = opened.refusal;
     if refusal.number != 0 {
         return listing_text::write_refusal(out, refusal);
     }
     let state = opened.state;
-    find(state, manifest, segments, cache, query, call, out)
+    find(state, files, out)
+}
+
+// A line that is printed alone.
+fn alone(out: &mut [u8], line: &[u8]) -> usize
+    requires { length line.now ≤ length out.old }
+    ensures put { Put out.old out.new 0 line.now result }
+    ensures prefix_len { IsPrefixLen result out.new }
+{
+    let mut w = Writer::new(out);
+    w.put_bytes(line);
+    w.len()
 }
 
 // All that the list program prints; its length is returned.
-pub fn list(
-    there: There,
-    manifest: &[u8],
-    segments: &[u8],
-    cache: &[u8],
-    query: &[u8],
-    call: &[u8],
-    place: &[u8],
-    out: &mut [u8; LISTING_BYTES],
-) -> usize
-    ensures put { Put out.old out.new 0 (output (files_of there manifest.now segments.now cache.now query.now call.now place.now)) result }
+pub fn list(files: &Input, out: &mut [u8; LISTING_BYTES]) -> usize
+    ensures put { Put out.old out.new 0 (output (files_of files.now)) result }
     ensures prefix_len { IsPrefixLen result out.new }
 {
-    let input = listing_input::check_input(there, manifest, segments, cache, query, call, place);
-    match input {
-        Input::TooLong => text::put_bytes(out, 0, b"too long\n"),
-        Input::BadInput => text::put_bytes(out, 0, b"bad input\n"),
-        Input::Whole => answer(manifest, segments, cache, query, call, place, out),
+    match listing_input::check_input(files) {
+        Err(InputError::TooLong) => alone(out, b"too long\n"),
+        Err(InputError::BadInput) => alone(out, b"bad input\n"),
+        Ok(whole) => answer(&whole, out),
     }
 }

@@ -9,6 +9,7 @@ use native.Mathlib.Numerals.{add-one}
 use native.Mathlib.Omega.{arith}
 use lib.Ieee.{Float}
 use lib.ListN.{length, get_or, length-append}
+use Rattle.std.specs.Int.{from_bool}
 use Rattle.le.specs.Le.{paste}
 use Rattle.le.proofs.Chain.{lt_or_le}
 use Rattle.le.proofs.Pastes.{paste-first}
@@ -78,6 +79,11 @@ pub record Held (r : Report) : Type 0 where
   pub sequence : r.sequence < 2 ^ 64
   pub eligible : r.eligible < 2 ^ 64
   pub measured : r.measured < 2 ^ 64
+
+-- `u64::from` of a flag
+pub is_bit : (b : Bool) → from_bool b ≡ bit b
+is_bit true = refl
+is_bit false = refl
 
 bit_length : (b : Bool) → length (decimal (bit b)) ≡ 1
 unfolding decimal decimal_in

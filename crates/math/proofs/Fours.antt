@@ -8,9 +8,8 @@ use Rattle.float.proofs.Quads.{four-alike, quad_at}
 use Rattle.root.specs.SquareRoot.{sqrt_of}
 use Rattle.config.specs.Metric.{is_cosine}
 use Rattle.config.specs.Limits.{max_dimensions}
-use Rattle.config.specs.Vector.{finites, valid_vector, floats_at}
+use Rattle.config.specs.Vector.{finites, valid_vector}
 use Rattle.config.specs.declared.Metric.{Metric}
-use Rattle.config.proofs.Vectors.{length_floats}
 use Rattle.math.specs.Sums.{start, dot_step, step_of}
 use Rattle.math.specs.Distance.{inverse, inverse_norm, finished, original}
 use Rattle.math.specs.Four.{valid_five}
@@ -30,12 +29,6 @@ same n a b c d p q r s (suc zero) h = q
 same n a b c d p q r s (suc (suc zero)) h = r
 same n a b c d p q r s (suc (suc (suc zero))) h = s
 same n a b c d p q r s (suc (suc (suc (suc k)))) h = absurd (omega arith)
-
-abbrev pub picked : ℕ → List ℕ → ℕ → ℕ → ℕ → ℕ → ℕ → List Float
-picked n s a b c d = pick (floats_at n s a) (floats_at n s b) (floats_at n s c) (floats_at n s d)
-
-pub same-picked : (n : ℕ) (s : List ℕ) (a b c d : ℕ) → Same n (picked n s a b c d)
-same-picked n s a b c d = same n (floats_at n s a) (floats_at n s b) (floats_at n s c) (floats_at n s d) (length_floats n s a) (length_floats n s b) (length_floats n s c) (length_floats n s d)
 
 -- ---- acc holds the sums of X k and Y k before i
 pub record Fours (step : Float → Float → Float → Float) (X Y : ℕ → List Float) (i : ℕ) (acc : List Float) : Type 0 where

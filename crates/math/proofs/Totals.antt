@@ -92,7 +92,6 @@ Coordinates [] = Unit {0}
 Coordinates (x ∷ v) = Within x (two 128) × Coordinates v
 
 pub coordinates : (v : List Float) → all (fits binary32) v ≡ true → finites v ≡ true → Coordinates v
-unfolding all
 coordinates [] h k = tt
 coordinates (x ∷ v) h k =
     let f = (and-eq-true_iff (fits binary32 x) (all (fits binary32) v)).0 h in

@@ -20,6 +20,7 @@ ghost use Rattle.prepare.specs.Prepare.{store_refusal, cache_of, cache_after, in
 use cache_format::Options;
 use config::Refusal;
 use format::Layout;
+use quantization::Encoder;
 
 // What was prepared: the Rust's `QuantizedCacheInfo`.
 #[derive(Clone, Copy)]
@@ -75,9 +76,9 @@ fn store_rows(m: &[u8], layout: Layout, starts: &[u64; 1025], s: &[u8], cache: &
     ensures { cache.new ≡ paste cache.old at (rows_bytes base_levels midpoints m.now s.now (rows_of m.now)) }
 {
     let t = quantization::midpoints_table();
+    let encoder = Encoder::new(&t, quantization::BASE_LEVELS);
     let row = cache_format::row_length(layout.dimensions);
-    let levels = quantization::BASE_LEVELS;
-    encoded_rows::put_rows(m, layout, starts, &t, levels, s, cache, at, row);
+    encoded_rows::put_rows(m, layout, starts, &encoder, s, cache, at, row);
 }
 
 // Head, rows, CRC-32.

@@ -28,23 +28,13 @@ signed-fits true zero h = record { sfits = omega arith }
 signed-fits true (suc m) h = record { sfits = omega arith }
 signed-fits false m h = record { sfits = omega arith }
 
--- what stands in a local and in an element of a slice
+-- what stands in a local
 pub as_i8 : {r : ℤ} (s : Bool) (m : ℕ) → m ≤ 127 → r ≡ signed_by s m → to_z w8 (of_z w8 r) ≡ signed_by s m
 as_i8 s m h e = rw e (to_z-of_z (signed-fits s m h))
 
-pub fits_i16 : {r : ℤ} (s : Bool) (m : ℕ) → m ≤ 127 → r ≡ signed_by s m → SFits w16 (to_z w8 (of_z w8 r))
-fits_i16 s m h e = rw (as_i8 s m h e) (sfits_widen tt (signed-fits s m h))
-
-pub as_i16 : {r : ℤ} (s : Bool) (m : ℕ) → m ≤ 127 → r ≡ signed_by s m → to_z w16 (of_z w16 (to_z w8 (of_z w8 r))) ≡ signed_by s m
-as_i16 s m h e = to_z-of_z (fits_i16 s m h e) ∙ as_i8 s m h e
-
--- what the code makes of a magnitude: its negative, and that one's byte
+-- what the code makes of a magnitude
 pub minus_is : (m : ℕ) → m ≤ 127 → pos 0 -ℤ to_z w8 m ≡ signed_by true m
 minus_is m h = rw (to_z_pos w8 {n = m} (omega arith)) (+ℤ_idl (neg_ℤ (pos m)))
-
-pub byte_is : (m : ℕ) → m ≤ 127 → (256 - m) % 256 ≡ of_z w8 (signed_by true m)
-byte_is zero h = omega arith
-byte_is (suc m) h = omega arith
 
 -- ---- sums and bounds
 pub square_le : (m : ℕ) → m ≤ 127 → m * m ≤ 16129

@@ -3,15 +3,15 @@
 use mathlib.Core.Path.{◌≡◌, refl, sym, ap, ◌∙◌}
 use mathlib.Core.Bool.{Bool, true, false, not, cond}
 use mathlib.Core.List.{List, [], ◌∷◌, map}
-use Prim.Native.Nat.{ℕ, ◌+◌, ◌%◌, ◌^◌, ◌≤◌, ◌<◌, max}
+use Prim.Native.Nat.{ℕ, zero, suc, ◌+◌, ◌*◌, ◌%◌, ◌^◌, ◌≤◌, ◌<◌, max}
 use native.Mathlib.Nat.{le_of_lt}
 use native.Mathlib.Numerals.{add-one}
 use native.Mathlib.Omega.{arith}
 use borrow.Author.Tests.{ltb-true, ltb-false, lt-leb}
 use lib.Dec.{T, ltb, leb}
-use lib.ListN.{length, get_or, drop, drop_of_length-le}
+use lib.ListN.{length, get_or, drop, length-map, drop_of_length-le}
 use lib.Seq.{drop-cons}
-use lib.Ieee.{Float, nan, binary32, binary64, of_bits, to_bits, fits, lt, div, unlike, is_nan}
+use lib.Ieee.{Float, nan, inf, fin, binary32, binary64, of_bits, to_bits, fits, lt, div, unlike, is_nan}
 use lib.Ieee.Bits.{of_bits-fits, of_bits-to_bits}
 use lib.Ieee.Scale.{finite}
 use lib.Ieee.Positive.{positive}
@@ -22,10 +22,11 @@ use Rattle.float.proofs.Patterns.{abs-bits, lt_bits, sign_bits, small-bits, bits
 use Rattle.float.proofs.Bounds.{abs-div, div_sign}
 use Rattle.float.proofs.Numbers.{div_number}
 use Rattle.float.proofs.Singles.{positive_parts}
-use Rattle.config.specs.Vector.{all, finites, largest_bits}
+use Rattle.le.specs.Le.{le_at}
+use Rattle.config.specs.Vector.{all, finites, patterns_at, largest_bits}
 use Rattle.config.specs.Vector as vector
 use Rattle.config.proofs.Vectors.{finites-largest}
-use Rattle.config.proofs.Coordinates.{all_cons}
+use Rattle.config.proofs.Coordinates.{all_cons, all-at}
 use Rattle.quantization.specs.Encoder.{largest, largest_from, scale_by, scale_of, not_above, signed_by, code_of}
 use Rattle.quantization.proofs.Scales.{Plain}
 
@@ -34,18 +35,47 @@ pub of_patterns : (v : List Float) → all (fits binary32) v ≡ true → map (o
 of_patterns [] h = refl
 of_patterns (x ∷ v) h = let k = all_cons (fits binary32) x v h in rw (of_bits-to_bits binary32 x k.0, of_patterns v k.1)
 
+-- the number of a pattern, and a pattern of a record
+pub number_at : (bs : List ℕ) (i : ℕ) → i < length bs → get_or (map (of_bits binary32) bs) i nan ≡ of_bits binary32 (get_or bs i 0)
+number_at [] i h = absurd (omega arith)
+number_at (b ∷ bs) zero h = refl
+number_at (b ∷ bs) (suc i) h = number_at bs i (omega arith)
+
+pub pattern_at : (n : ℕ) (s : List ℕ) (at i : ℕ) → i < n → get_or (patterns_at n s at) i 0 ≡ le_at 4 s (at + 4 * i)
+unfolding patterns_at
+pattern_at zero s at i h = absurd (omega arith)
+pattern_at (suc n) s at zero h = let e : at + 4 * 0 ≡ at = omega arith in rw e refl
+pattern_at (suc n) s at (suc i) h = let e : at + 4 * suc i ≡ at + 4 + 4 * i = omega arith in rw e (pattern_at n s (at + 4) i (omega arith))
+
+-- a pattern of f32s, which is no NaN's where its number is finite
+pub bits_at : (v : List Float) (i : ℕ) → i < length v → get_or (map (to_bits binary32) v) i 0 ≡ to_bits binary32 (get_or v i nan)
+bits_at [] i h = absurd (omega arith)
+bits_at (x ∷ v) zero h = refl
+bits_at (x ∷ v) (suc i) h = bits_at v i (omega arith)
+
+no_nan : (x : Float) → T (finite (of_bits binary32 (to_bits binary32 x))) → T (not (is_nan x))
+unfolding of_bits to_bits is_nan
+no_nan nan h = absurd h
+no_nan (inf s) h = tt
+no_nan (fin s m e) h = tt
+
+pub bits_number : (v : List Float) (i : ℕ) → i < length (map (to_bits binary32) v) → finites (map (of_bits binary32) (map (to_bits binary32) v)) ≡ true → T (not (is_nan (get_or v i nan)))
+bits_number v i h k =
+    let bs = map (to_bits binary32) v in
+    no_nan (get_or v i nan) (rw (number_at bs i h, bits_at v i (rw (length-map v (to_bits binary32)) at h)) at (all-at finite (map (of_bits binary32) bs) i nan k (rw (length-map bs (of_bits binary32)) h)))
+
 -- ---- the largest magnitude
--- a loop over f32s: most is the largest pattern without its sign of those before i
-pub record Largest (v : List Float) (i most : ℕ) : Type 0 where
-  pub so : vector.largest_pattern_from most (map (to_bits binary32) (drop i v)) ≡ largest_bits (map (to_bits binary32) v)
+-- a loop: most is the largest pattern without its sign of those before i
+pub record Largest (bs : List ℕ) (i most : ℕ) : Type 0 where
+  pub so : vector.largest_pattern_from most (drop i bs) ≡ largest_bits bs
 
-pub largest_turn : {v : List Float} {i most next : ℕ} → i < length v → next ≡ max most (to_bits binary32 (get_or v i nan) % 2147483648) → Largest v i most → Largest v (i + 1) next
+pub largest_turn : {bs : List ℕ} {i most next : ℕ} → i < length bs → next ≡ max most (get_or bs i 0 % 2147483648) → Largest bs i most → Largest bs (i + 1) next
 unfolding vector.largest_pattern_from
-largest_turn {v} {i} h e f = record { so = rw (e, add-one i) (rw (drop-cons v i nan h) at f.so) }
+largest_turn {bs} {i} h e f = record { so = rw (e, add-one i) (rw (drop-cons bs i 0 h) at f.so) }
 
-pub largest_done : {v : List Float} {i most : ℕ} → length v ≤ i → Largest v i most → most ≡ largest_bits (map (to_bits binary32) v)
+pub largest_done : {bs : List ℕ} {i most : ℕ} → length bs ≤ i → Largest bs i most → most ≡ largest_bits bs
 unfolding vector.largest_pattern_from
-largest_done {v} h f = rw (drop_of_length-le v h) at f.so
+largest_done {bs} h f = rw (drop_of_length-le bs h) at f.so
 
 larger : (m b : ℕ) → m < 2139095040 → b % 2147483648 < 2139095040
     → cond (lt (of_bits binary32 m) (abs (of_bits binary32 b))) (abs (of_bits binary32 b)) (of_bits binary32 m) ≡ of_bits binary32 (max m (b % 2147483648))

@@ -1,15 +1,13 @@
 -- A row in bytes: it is written by one loop and two numbers, and reads back as itself.
 use mathlib.Core.Path.{◌≡◌, refl, ap, ◌∙◌}
 use mathlib.Core.Bool.{true}
-use mathlib.Core.List.{List, ◌++◌, map, append-nil, append_assoc, map-id, map-append}
+use mathlib.Core.List.{List, ◌++◌, map, append_assoc, map-append}
 use Prim.Native.Nat.{ℕ, ◌+◌}
-use native.Mathlib.Nat.{zero-add}
 use native.Mathlib.Omega.{arith}
 use lib.Dec.{T}
-use lib.IntN.{ℤ}
-use lib.ListN.{length, take, drop, length-append, length-map, drop_of_length-le}
-use lib.Seq.{take_at, drop_at, length-take-le}
-use lib.Ieee.{Float, binary64, of_bits, to_bits, fits}
+use lib.ListN.{length, take, drop, length-append, length-map}
+use lib.Seq.{take_at, drop_at}
+use lib.Ieee.{binary64, of_bits, to_bits, fits}
 use lib.Ieee.Bits.{of_bits-to_bits, to_bits-lt}
 use mir.Syntax.{w8, w64}
 use mir.Val.{SFits, to_z, of_z}
@@ -19,31 +17,18 @@ use Rattle.le.proofs.LeLaws.{length_bytes, le-bytes-all}
 use Rattle.le.proofs.Pastes.{paste-two}
 use Rattle.codes.specs.Codes.{signed, within}
 use Rattle.quantization.specs.View.{View, row_bytes, row_at}
-use Rattle.quantization.specs.Encoder.{encode}
 use Rattle.quantization.proofs.Codes.{bytes_back}
-use Rattle.quantization.proofs.Stores.{Whole}
 
 -- ---- written
-module _ {levels : ℕ} {mids v : List Float} {s : Float} {total : ℕ} where
-  -- the codes alone
-  pub front : {d out : List ℤ} → Whole levels mids (λ z. z) v 0 d s total out → out ≡ (encode levels mids v).codes ++ drop (length v) d
-  front {d} w = w.so ∙ rw (zero-add (length v), map-id (encode levels mids v).codes)
-
-  pub front-only : {d out : List ℤ} → length d ≡ length v → Whole levels mids (λ z. z) v 0 d s total out → out ≡ (encode levels mids v).codes
-  front-only {d} e w = front w ∙ rw (drop_of_length-le d {i = length v} (omega arith), append-nil (encode levels mids v).codes)
-
-  -- and the scale and the norm before them
-  pub row_is : {d out : List ℕ} → length d ≡ 16 + length v → Whole levels mids (of_z w8) v 16 d s total out
-      → paste (paste out 0 (bytes 8 (to_bits binary64 s))) 8 (bytes 8 (of_z w64 (to_z w64 total))) ≡ row_bytes (encode levels mids v)
-  unfolding row_bytes
-  row_is {d} {out} e w =
-      let r = encode levels mids v in
-      let cs = map (of_z w8) r.codes in
-      let a = bytes 8 (to_bits binary64 r.scale) in
-      let b = bytes 8 (of_z w64 r.norm) in
-      let n = length_bytes 8 (of_z w64 r.norm) in
-      let t = length-take-le 16 d (omega arith) in
-      rw (w.scale, w.norm, paste-two out a b 8 (length_bytes 8 (to_bits binary64 r.scale)), n, w.so, append_assoc (take 16 d) cs (drop (16 + length v) d), drop_at (take 16 d) (cs ++ drop (16 + length v) d) 16 t, drop_of_length-le d {i = 16 + length v} (omega arith), append-nil cs)
+-- the codes stand behind 16 bytes, and the scale and the norm over these
+pub row_is : (r : View) (front : List ℕ) {out : List ℕ} → length front ≡ 16 → out ≡ front ++ map (of_z w8) r.codes
+    → paste (paste out 0 (bytes 8 (to_bits binary64 r.scale))) 8 (bytes 8 (of_z w64 r.norm)) ≡ row_bytes r
+unfolding row_bytes
+row_is r front {out} l e =
+    let cs = map (of_z w8) r.codes in
+    let a = bytes 8 (to_bits binary64 r.scale) in
+    let b = bytes 8 (of_z w64 r.norm) in
+    rw (paste-two out a b 8 (length_bytes 8 (to_bits binary64 r.scale)), length_bytes 8 (of_z w64 r.norm), e, drop_at front cs 16 l)
 
 pub length_row : (r : View) → length (row_bytes r) ≡ 16 + length r.codes
 unfolding row_bytes

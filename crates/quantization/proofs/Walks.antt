@@ -152,13 +152,13 @@ started {levels} g x n p =
     (i, walked_to k (rw (levels_are levels) (omega arith)) (λ j l. rw (formula_at levels j (omega arith)) (h.under (midpoint j) refl (before z k j f n l)))))
 
 -- ---- its turns in the lent table t, and its end: z is x held at the last level but one, so that it stops at the last midpoint
-module _ {levels : ℕ} {t : List Float} {x z : Float} {k : ℕ} (p : (t ≡ midpoints) × Levels levels) (n : T (not (is_nan x)) × (negative x ≡ false)) (e : z ≡ held (float (levels - 1)) x)
+module _ {levels : ℕ} {t : List Float} {x z : Float} {k : ℕ} (tab : t ≡ midpoints) (p : Levels levels) (n : T (not (is_nan x)) × (negative x ≡ false)) (e : z ≡ held (float (levels - 1)) x)
     (i : (k < levels) × Walked (midpoints_of levels) x k) where
   small : levels - 1 ≤ 127
-  small = omega (arith, p.1.1)
+  small = omega (arith, p.1)
 
   entry : (j : ℕ) → j < levels → get_or t j nan ≡ midpoint j
-  entry j h = rw p.0 (formula_at 127 j (omega (arith, p.1.1)))
+  entry j h = rw tab (formula_at 127 j (omega (arith, p.1)))
 
   h : Held x (float (levels - 1)) z
   h = rw e (held-is x (float (levels - 1)) n.0 n.1 (level_fine small) (level_sign small))
@@ -197,4 +197,4 @@ module _ {levels : ℕ} {t : List Float} {x z : Float} {k : ℕ} (p : (t ≡ mid
   pub walked_end : le (get_or t k nan) z ≡ false → (k + bool_byte (le (get_or t (levels - 1) nan) x) ≡ not_above (midpoints_of levels) x) × (k + bool_byte (le (get_or t (levels - 1) nan) x) ≤ 127)
   walked_end q =
       let c = ended (rw (entry k i.0) at q) in
-      rw (entry (levels - 1) (omega (arith, p.1.0))) (c, omega (arith, c, rw (levels_are levels) at (at_most (midpoints_of levels) x), p.1.1))
+      rw (entry (levels - 1) (omega (arith, p.0))) (c, omega (arith, c, rw (levels_are levels) at (at_most (midpoints_of levels) x), p.1))

@@ -2,7 +2,7 @@
 // a row of a cache, as i8s, or as i16s.
 #![tactic(auto)]
 
-ghost use Rattle.std.specs.Prelude.{◌≡◌, true, false, not, map, ◌++◌, ◌+◌, ◌-◌, ◌*◌, ◌≤◌, ◌<◌, ◌^◌, T, leb, length, drop};
+ghost use Rattle.std.specs.Prelude.{◌≡◌, true, false, not, List, map, ◌++◌, ℕ, ℤ, ◌+◌, ◌-◌, ◌*◌, ◌≤◌, ◌<◌, ◌^◌, T, leb, length, slice_index, drop};
 ghost use Rattle.std.specs.Float.{binary32, binary64};
 ghost use Rattle.std.specs.Float.Ieee.{of_bits, to_bits, div, is_nan};
 ghost use Rattle.std.specs.Float.Ieee.Scale.{finite};
@@ -11,7 +11,7 @@ ghost use Rattle.std.specs.Int.{w8};
 ghost use Rattle.std.proofs.Common.{of_z};
 ghost use Rattle.float.specs.Values.{abs};
 ghost use Rattle.float.specs.Order.{negative};
-ghost use Rattle.config.specs.Vector.{finites, floats_at, largest_bits};
+ghost use Rattle.config.specs.Vector.{finites, floats_at, patterns_at, largest_bits};
 ghost use Rattle.quantization.specs.View.{row_bytes};
 ghost use Rattle.quantization.specs.Encoder.{Levels, scale_by, not_above, signed_by, encode, midpoints_of, midpoints};
 ghost use Rattle.quantization.specs.Walk.{held as held_of, Walked};
@@ -39,193 +39,246 @@ const MIDPOINTS: [f64; 127] = [
     124.5, 125.5, 126.5,
 ];
 
-// The table to lend: a constant array is built anew wherever it is used, so a caller makes it once.
+// The table to lend: a constant array is built anew wherever it is used, so a caller makes it once. (As a static, whose address LLVM knows, the encoder
+// takes 1.25 times as long.)
 pub fn midpoints_table() -> [f64; 127]
     ensures { result ≡ midpoints }
 {
     MIDPOINTS
 }
 
-// The scale, from the largest pattern without its sign.
-fn scale_of(levels: u32, most: u32) -> f64
-    ensures { result ≡ scale_by levels (of_bits binary32 most) }
-{
-    let x = float::f32_value(most);
-    if x == 0.0 {
-        return 1.0;
-    }
-    x / (levels as f64)
+// ---- What is encoded, and what a code is stored as.
+
+// The coordinates of a vector, by their patterns.
+trait Source {
+    ghost patterns: { Self → List ℕ };
+
+    fn len(&self) -> usize
+        ensures { result ≡ length (patterns self.now) };
+
+    fn pattern(&self, i: usize) -> u32
+        requires in_bounds { i < length (patterns self.now) }
+        requires finite { finites (map (of_bits binary32) (patterns self.now)) ≡ true }
+        ensures { result ≡ slice_index (patterns self.now) i };
 }
 
-// The lesser of x and top.
+// The n coordinates at a place of a record.
+#[derive(Clone, Copy)]
+struct Record<'a> {
+    bytes: &'a [u8],
+    at: usize,
+    n: usize,
+    ghost in_bounds: { at + 4 * n ≤ length bytes.now },
+}
+
+impl<'a> Source for Record<'a> {
+    ghost patterns = { λ r. patterns_at r.n r.bytes.now r.at };
+
+    fn len(&self) -> usize {
+        self.n
+    }
+
+    fn pattern(&self, i: usize) -> u32 {
+        let s = self.bytes;
+        le::u32_at(s, self.at + 4 * i)
+    }
+}
+
+impl<'a> Source for &'a [f32] {
+    ghost patterns = { λ v. map (to_bits binary32) v.now };
+
+    fn len(&self) -> usize {
+        (*self).len()
+    }
+
+    fn pattern(&self, i: usize) -> u32 {
+        f32::to_bits(self[i])
+    }
+}
+
+// What a code is stored as: its byte in two's complement, itself, or an i16.
+trait Stored: Copy {
+    ghost stored: { ℤ → Self };
+
+    fn of(code: i8) -> Self
+        ensures { result ≡ stored code };
+}
+
+impl Stored for u8 {
+    ghost stored = { of_z w8 };
+
+    fn of(code: i8) -> u8 {
+        code.cast_unsigned()
+    }
+}
+
+impl Stored for i8 {
+    ghost stored = { λ z. z };
+
+    fn of(code: i8) -> i8 {
+        code
+    }
+}
+
+impl Stored for i16 {
+    ghost stored = { λ z. z };
+
+    fn of(code: i8) -> i16 {
+        i16::from(code)
+    }
+}
+
+// The largest pattern without its sign.
+fn largest_bits<S: Source>(source: &S) -> u32
+    requires { finites (map (of_bits binary32) (S.patterns source.now)) ≡ true }
+    ensures { result ≡ largest_bits (S.patterns source.now) }
+{
+    let mut most: u32 = 0;
+    for i in 0..source.len() {
+        most = most.max(source.pattern(i) % 2147483648);
+    }
+    most
+}
+
+// The lesser of x and top: one instruction, where `f64::min` also looks for NaN.
 fn held(top: f64, x: f64) -> f64
     ensures { result ≡ held_of top x }
 {
-    if x < top {
-        return x;
-    }
-    top
+    if x < top { x } else { top }
 }
 
-// Where the walk starts: a whole number nearest to x, held at the last level but one; no midpoint before it is above x. A sum with 2^52 keeps
-// no digit below 1, so its pattern counts.
-fn start(levels: u32, x: f64) -> usize
-    requires levels { Levels levels }
-    requires t { T (not (is_nan x)) × (negative x ≡ false) }
-    ensures { (result < levels) × Walked (midpoints_of levels) x result }
-{
-    (f64::to_bits(held((levels - 1) as f64, x) + 4503599627370496.0) - 4841369599423283200) as usize
-}
-
-// The number of midpoints not above x, of the first `levels`: they rise, so the walk ends at the first that is above x. It goes by z, which is below
-// the last midpoint, and that one is compared with x apart: so a row's largest coordinate takes the same branches as the others.
-fn walk(t: &[f64; 127], levels: u32, x: f64) -> u32
-    requires t_value { (t.now ≡ midpoints) × Levels levels }
-    requires t { T (not (is_nan x)) × (negative x ≡ false) }
-    ensures { (result ≡ not_above (midpoints_of levels) x) × (result ≤ 127) }
-{
-    let last = levels - 1;
-    let z = held(last as f64, x);
-    let mut k = start(levels, x);
-    while t[k] <= z {
-        k += 1;
-        if k == levels as usize {
-            return levels;
-        }
-    }
-    k as u32 + (t[last as usize] <= x) as u32
-}
-
-// The magnitude of the code of the coordinate of pattern b: the quotient's magnitude is the magnitude's quotient (`code-abs`).
-fn magnitude(t: &[f64; 127], levels: u32, b: u32, scale: f64) -> u32
-    requires t_value { (t.now ≡ midpoints) × Levels levels }
-    requires t { T (finite (of_bits binary32 b)) × T (positive scale) }
-    ensures { (result ≡ not_above (midpoints_of levels) (abs (div binary64 (of_bits binary32 b) scale))) × (result ≤ 127) }
-{
-    let x = f32::from_bits(b % 2147483648) as f64;
-    walk(t, levels, x / scale)
-}
-
-// The code of magnitude m with the sign of the pattern b, which is the quotient's (`code_sign`); and its byte, in two's complement.
+// The code of magnitude m with the sign of the pattern b, which is the quotient's (`code_sign`).
 fn code(b: u32, m: u32) -> i8
     requires { m ≤ 127 }
     ensures { result ≡ signed_by (leb (2 ^ 31) b) m }
 {
     let c = m as i8;
-    if 2147483648 <= b {
-        return 0 - c;
-    }
-    c
+    if 2147483648 <= b { -c } else { c }
 }
 
-fn byte(b: u32, m: u32) -> u8
-    requires { m ≤ 127 }
-    ensures { result ≡ of_z w8 (signed_by (leb (2 ^ 31) b) m) }
-{
-    if 2147483648 <= b {
-        return ((256 - m) % 256) as u8;
-    }
-    m as u8
+// ---- The encoder.
+
+// The encoder of a level count, over the lent table.
+#[derive(Clone, Copy)]
+pub struct Encoder<'a> {
+    table: &'a [f64; 127],
+    pub levels: u32,
+    ghost midpoints: { table.now ≡ midpoints },
+    ghost counted: { Levels levels },
 }
 
-// The norm with one more code, the last of 4096 at most.
-fn add_square(norm: u32, m: u32) -> u32
-    requires { (norm ≤ 16129 * 4095) × (m ≤ 127) }
-    ensures { result ≡ norm + m * m }
-{
-    norm + m * m
-}
+impl<'a> Encoder<'a> {
+    pub fn new(table: &'a [f64; 127], levels: u32) -> Encoder<'a>
+        requires { (table.now ≡ midpoints) × Levels levels }
+        ensures { result.levels ≡ levels }
+    {
+        Encoder { table, levels }
+    }
 
-// The row of the n coordinates at a place of a record, into its own part of a cache, which is 16 + n bytes long.
-pub fn encode_row(t: &[f64; 127], levels: u32, s: &[u8], at: usize, out: &mut [u8]) -> Row
-    requires t_value { (t.now ≡ midpoints) × Levels levels }
-    requires in_bounds { (16 ≤ length out.old) × (length out.old ≤ 4112) × (at + 4 * (length out.old - 16) ≤ length s.now) }
-    requires at_value { finites (floats_at (length out.old - 16) s.now at) ≡ true }
-    ensures { let e = encode levels (midpoints_of levels) (floats_at (length out.old - 16) s.now at) in (out.new ≡ row_bytes e)
-        × (result.scale ≡ e.scale) × (result.norm ≡ e.norm) }
-{
-    let n = out.len() - 16;
-    let scale = scale_of(levels, config::largest_bits(s, at, n));
-    let mut norm: u32 = 0;
-    let mut i = 0;
-    while i < n {
-        let b = le::u32_at(s, at + 4 * i);
-        let m = magnitude(t, levels, b, scale);
-        norm = add_square(norm, m);
-        out[16 + i] = byte(b, m);
-        i += 1;
-    }
-    le::put_u64(out, 0, f64::to_bits(scale));
-    le::put_i64(out, 8, norm as i64);
-    Row {
-        scale: scale,
-        norm: norm as i64,
-    }
-}
-
-// The same with the codes alone stored, as i8s.
-pub fn encode_resident(t: &[f64; 127], levels: u32, s: &[u8], at: usize, out: &mut [i8]) -> Row
-    requires t_value { (t.now ≡ midpoints) × Levels levels }
-    requires out_len_bound { (length out.old ≤ 4096) × (at + 4 * length out.old ≤ length s.now) }
-    requires at_value { finites (floats_at (length out.old) s.now at) ≡ true }
-    ensures { let e = encode levels (midpoints_of levels) (floats_at (length out.old) s.now at) in (out.new ≡ e.codes)
-        × (result.scale ≡ e.scale) × (result.norm ≡ e.norm) }
-{
-    let n = out.len();
-    let scale = scale_of(levels, config::largest_bits(s, at, n));
-    let mut norm: u32 = 0;
-    let mut i = 0;
-    while i < n {
-        let b = le::u32_at(s, at + 4 * i);
-        let m = magnitude(t, levels, b, scale);
-        norm = add_square(norm, m);
-        out[i] = code(b, m);
-        i += 1;
-    }
-    Row {
-        scale: scale,
-        norm: norm as i64,
-    }
-}
-
-// The largest pattern without its sign of f32s.
-fn largest_bits(v: &[f32]) -> u32
-    requires { finites v.now ≡ true }
-    ensures { result ≡ largest_bits (map (to_bits binary32) v.now) }
-{
-    let mut most: u32 = 0;
-    let mut i = 0;
-    while i < v.len() {
-        let b = f32::to_bits(v[i]) % 2147483648;
-        if most < b {
-            most = b;
+    // The scale, from the largest pattern without its sign.
+    fn scale(&self, most: u32) -> f64
+        ensures { result ≡ scale_by self.now.levels (of_bits binary32 most) }
+    {
+        let x = float::Pattern::value(most);
+        if x == 0.0 {
+            return 1.0;
         }
-        i += 1;
+        x / self.levels as f64
     }
-    most
-}
 
-// The codes of f32s, widened, at the front of out.
-pub fn encode_query(t: &[f64; 127], levels: u32, v: &[f32], out: &mut [i16]) -> Row
-    requires t_value { (t.now ≡ midpoints) × Levels levels }
-    requires v_len_bound { (length v.now ≤ 4096) × (length v.now ≤ length out.old) }
-    requires v_value { finites v.now ≡ true }
-    ensures { let e = encode levels (midpoints_of levels) v.now in (out.new ≡ e.codes ++ drop (length v.now) out.old)
-        × (result.scale ≡ e.scale) × (result.norm ≡ e.norm) }
-{
-    let n = v.len();
-    let scale = scale_of(levels, largest_bits(v));
-    let mut norm: u32 = 0;
-    let mut i = 0;
-    while i < n {
-        let b = f32::to_bits(v[i]);
-        let m = magnitude(t, levels, b, scale);
-        norm = add_square(norm, m);
-        out[i] = code(b, m) as i16;
-        i += 1;
+    // Where the walk starts: a whole number nearest to x, held at the last level but one; no midpoint before it is above x. A sum with 2^52 keeps
+    // no digit below 1, so its pattern counts.
+    fn start(&self, x: f64) -> usize
+        requires { T (not (is_nan x)) × (negative x ≡ false) }
+        ensures { (result < self.now.levels) × Walked (midpoints_of self.now.levels) x result }
+    {
+        (f64::to_bits(held((self.levels - 1) as f64, x) + 4503599627370496.0)
+            - 4841369599423283200) as usize
     }
-    Row {
-        scale: scale,
-        norm: norm as i64,
+
+    // The number of midpoints not above x, of the first `levels`: they rise, so the walk ends at the first that is above x. It goes by z, which is below
+    // the last midpoint, and that one is compared with x apart: so a row's largest coordinate takes the same branches as the others.
+    fn walk(&self, x: f64) -> u32
+        requires { T (not (is_nan x)) × (negative x ≡ false) }
+        ensures { (result ≡ not_above (midpoints_of self.now.levels) x) × (result ≤ 127) }
+    {
+        let t = self.table;
+        let last = self.levels - 1;
+        let z = held(last as f64, x);
+        // A `for` over start..levels tests the start too, and the encoder takes 1.08 times as long.
+        let mut k = self.start(x);
+        while t[k] <= z {
+            k += 1;
+            if k == self.levels as usize {
+                return self.levels;
+            }
+        }
+        k as u32 + (t[last as usize] <= x) as u32
+    }
+
+    // The magnitude of the code of the coordinate of pattern b: the quotient's magnitude is the magnitude's quotient (`code-abs`).
+    fn magnitude(&self, b: u32, scale: f64) -> u32
+        requires { T (finite (of_bits binary32 b)) × T (positive scale) }
+        ensures { (result ≡ not_above (midpoints_of self.now.levels) (abs (div binary64 (of_bits binary32 b) scale))) × (result ≤ 127) }
+    {
+        let x = f32::from_bits(b % 2147483648) as f64;
+        self.walk(x / scale)
+    }
+
+    // The scale, the norm and, into a slice of its length, the codes of a vector.
+    fn encode<S: Source, C: Stored>(&self, source: &S, out: &mut [C]) -> Row
+        requires lengths { (length out.old ≡ length (S.patterns source.now)) × (length out.old ≤ 4096) }
+        requires finite { finites (map (of_bits binary32) (S.patterns source.now)) ≡ true }
+        ensures { let e = encode self.now.levels (midpoints_of self.now.levels) (map (of_bits binary32) (S.patterns source.now)) in
+            (out.new ≡ map C.stored e.codes) × (result.scale ≡ e.scale) × (result.norm ≡ e.norm) }
+    {
+        let scale = self.scale(largest_bits(source));
+        let mut norm: u32 = 0;
+        for (i, slot) in out.iter_mut().enumerate() {
+            let b = source.pattern(i);
+            let m = self.magnitude(b, scale);
+            norm += m * m;
+            *slot = C::of(code(b, m));
+        }
+        Row {
+            scale,
+            norm: i64::from(norm),
+        }
+    }
+
+    // The row of the n coordinates at a place of a record, into its own part of a cache, which is 16 + n bytes long.
+    pub fn encode_row(&self, s: &[u8], at: usize, out: &mut [u8]) -> Row
+        requires in_bounds { (16 ≤ length out.old) × (length out.old ≤ 4112) × (at + 4 * (length out.old - 16) ≤ length s.now) }
+        requires at_value { finites (floats_at (length out.old - 16) s.now at) ≡ true }
+        ensures { let e = encode self.now.levels (midpoints_of self.now.levels) (floats_at (length out.old - 16) s.now at) in (out.new ≡ row_bytes e)
+            × (result.scale ≡ e.scale) × (result.norm ≡ e.norm) }
+    {
+        let n = out.len() - 16;
+        let row = self.encode(&Record { bytes: s, at, n }, &mut out[16..]);
+        le::put_u64(out, 0, f64::to_bits(row.scale));
+        le::put_i64(out, 8, row.norm);
+        row
+    }
+
+    // The same with the codes alone stored, as i8s.
+    pub fn encode_resident(&self, s: &[u8], at: usize, out: &mut [i8]) -> Row
+        requires out_len_bound { (length out.old ≤ 4096) × (at + 4 * length out.old ≤ length s.now) }
+        requires at_value { finites (floats_at (length out.old) s.now at) ≡ true }
+        ensures { let e = encode self.now.levels (midpoints_of self.now.levels) (floats_at (length out.old) s.now at) in (out.new ≡ e.codes)
+            × (result.scale ≡ e.scale) × (result.norm ≡ e.norm) }
+    {
+        let n = out.len();
+        self.encode(&Record { bytes: s, at, n }, out)
+    }
+
+    // The codes of f32s, widened, at the front of out.
+    pub fn encode_query(&self, v: &[f32], out: &mut [i16]) -> Row
+        requires v_len_bound { (length v.now ≤ 4096) × (length v.now ≤ length out.old) }
+        requires v_value { finites v.now ≡ true }
+        ensures { let e = encode self.now.levels (midpoints_of self.now.levels) v.now in (out.new ≡ e.codes ++ drop (length v.now) out.old)
+            × (result.scale ≡ e.scale) × (result.norm ≡ e.norm) }
+    {
+        let n = v.len();
+        self.encode(&v, &mut out[..n])
     }
 }

@@ -13,8 +13,7 @@ pub mod Rekeyed
 pub mod Order
 pub mod Sift
 pub mod Down
-pub mod Insertion
-pub mod Parts
 pub mod Bounded
 pub mod Two
 pub mod Scan
+pub mod Sorted

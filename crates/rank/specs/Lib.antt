@@ -4,4 +4,3 @@ pub mod Rows
 pub mod Order
 pub mod Pairs
 pub mod Heap
-pub mod Parted

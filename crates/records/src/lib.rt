@@ -61,7 +61,7 @@ fn record_at(ids: &[u64], distances: &[f64], rows: &[u64], i: usize) -> Record
     }
 }
 
-// The first `count` places of an answer, copied into `out`.
+// The first `count` places of an answer, copied into `out`. C lends the answer as three slices.
 pub fn records(
     ids: &[u64],
     distances: &[f64],
@@ -73,10 +73,8 @@ pub fn records(
         × (out.new ≡ handed_out ids.now distances.now rows.now count out.old) }
 {
     let plan = planned(count, ids.len(), distances.len(), rows.len(), out.len());
-    let mut i = 0;
-    while i < plan.count {
+    for i in 0..plan.count {
         out[i] = record_at(ids, distances, rows, i);
-        i += 1;
     }
     plan.refusal
 }

@@ -15,6 +15,7 @@ ghost use Rattle.resident.specs.Build.{resident_room_ok, resident_room_number, r
 
 use config::Refusal;
 use format::{Head, Layout};
+use quantization::Encoder;
 
 // What was accepted, and the lengths of the slices as lent.
 #[derive(Clone, Copy)]
@@ -101,21 +102,20 @@ pub fn lengths_hold(
 // ---- The rows.
 
 fn fill(
-    levels: u32,
+    encoder: &Encoder,
     m: &[u8],
     layout: Layout,
     starts: &[u64; 1025],
-    t: &[f64; 127],
     s: &[u8],
     codes: &mut [i8],
     scales: &mut [f64],
     norms: &mut [i64],
 )
-    requires laid_out { LaidOut m.now layout × (rows_ok m.now ≡ true) × (starts.now ≡ starts_of m.now) × (t.now ≡ midpoints)
-        × (lowest_bad m.now s.now ≡ rows_of m.now) × Levels levels }
+    requires laid_out { LaidOut m.now layout × (rows_ok m.now ≡ true) × (starts.now ≡ starts_of m.now)
+        × (lowest_bad m.now s.now ≡ rows_of m.now) }
     requires m_in_bounds { (rows_of m.now * dimensions_of m.now ≤ length codes.old) × (rows_of m.now ≤ length scales.old)
         × (rows_of m.now ≤ length norms.old) }
-    ensures { (codes.new ≡ codes_upto levels (midpoints_of levels) m.now s.now (rows_of m.now) codes.old)
+    ensures { let levels = encoder.now.levels in (codes.new ≡ codes_upto levels (midpoints_of levels) m.now s.now (rows_of m.now) codes.old)
         × (scales.new ≡ scales_upto levels (midpoints_of levels) m.now s.now (rows_of m.now) scales.old)
         × (norms.new ≡ norms_upto levels (midpoints_of levels) m.now s.now (rows_of m.now) norms.old) }
 {
@@ -124,7 +124,7 @@ fn fill(
         let from = segment::record_at(m, layout, starts, row) + 12;
         let at = row * layout.dimensions;
         let end = at + layout.dimensions;
-        let encoded = quantization::encode_resident(t, levels, s, from, &mut codes[at..end]);
+        let encoded = encoder.encode_resident(s, from, &mut codes[at..end]);
         let scale = encoded.scale;
         let norm = encoded.norm;
         scales[row] = scale;
@@ -154,7 +154,8 @@ fn store(
         × (norms.new ≡ norms_upto levels (midpoints_of levels) m.now s.now (rows_of m.now) norms.old) }
 {
     let t = quantization::midpoints_table();
-    fill(levels, m, layout, starts, &t, s, codes, scales, norms);
+    let encoder = Encoder::new(&t, levels);
+    fill(&encoder, m, layout, starts, s, codes, scales, norms);
 }
 
 // ---- Building.

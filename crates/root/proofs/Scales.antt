@@ -9,13 +9,14 @@ use native.Mathlib.Omega.{arith}
 use lib.Pow.{pow-add, pow_pos, pow_mono}
 use lib.Dec.{T, leb}
 use borrow.Author.Tests.{lt-leb, le-leb}
-use lib.Ieee.{Float, nan, inf, fin, binary64, up, of_fields, of_bits, ne}
-use lib.Ieee.Compare.{differs_from_itself}
+use lib.Ieee.{Float, nan, inf, fin, binary64, up, of_fields, of_bits, to_bits, is_nan}
+use lib.Ieee.Bits.{to_bits-of_bits}
 use lib.Ieee.Fits.{down_pos}
 use lib.Ieee.Exact.{HasValue}
-use lib.Ieee.Positive.{num, den, value→cross, positive, positive_of_value}
-use Rattle.root.specs.SquareRoot.{Near, Root, IsRoot, Scale}
-use Rattle.float.proofs.BitLaws.{above_nan}
+use lib.Ieee.Positive.{num, den, value→cross, positive, positive_of_value, positive-finite}
+use Rattle.root.specs.SquareRoot.{Near, Root, IsRoot, Scale, Ordinary}
+use Rattle.root.proofs.Squares.{shifted}
+use Rattle.float.proofs.BitLaws.{above_nan, finite_number, is_nan_lem}
 use Rattle.float.proofs.Patterns.{mag, mag_pos, pattern-value, pattern-inf, plain_value, wider}
 
 -- ---- a subnormal's digits moved up
@@ -37,16 +38,18 @@ room d e t h p k = go (dec_lt 1022 e)
         absurd (lt_irrefl (t * 2 ^ 1074) (rw k at z))
 
 -- ---- digits and exponent
-pub scale_small : (b d e : ℕ) → b / 2 ^ 52 ≡ 0 → d * 2 ^ e ≡ b % 2 ^ 52 * 2 ^ 1074 → 2 ^ 52 ≤ d → d < 2 ^ 53 → 1022 ≤ e → e ≤ 1074 → Scale (of_bits binary64 b) d e
-scale_small b d e z k a c l u =
+pub scale_small : (b d e : ℕ) → b < 2 ^ 52 → d * 2 ^ e ≡ b * 2 ^ 1074 → 2 ^ 52 ≤ d → d < 2 ^ 53 → 1022 ≤ e → e ≤ 3119 → Scale (of_bits binary64 b) d e
+scale_small b d e h k a c l u =
+    let z : b / 2 ^ 52 ≡ 0 = omega arith in
+    let t : b % 2 ^ 52 ≡ b = omega arith in
     record {
       full = a;
       digits = c;
       low = l;
-      high = omega arith;
+      high = u;
       value =
           subst (λ (n : ℕ). HasValue (of_bits binary64 b) false n (2 ^ 2148)) (sym k)
-          (wider (of_bits binary64 b) false (b % 2 ^ 52) (2 ^ 1074) (2 ^ 1074) (rw z at (plain_value binary64 b (omega arith))));
+          (wider (of_bits binary64 b) false b (2 ^ 1074) (2 ^ 1074) (rw (z, t) at (plain_value binary64 b (omega arith))));
     }
 
 pub scale_normal : (b : ℕ) → 2 ^ 52 ≤ b → b < 2047 * 2 ^ 52 → Scale (of_bits binary64 b) (b % 2 ^ 52 + 2 ^ 52) (1073 + b / 2 ^ 52)
@@ -92,24 +95,33 @@ root-value j m h a b =
     let d : 2 ^ 52 + (j * 2 ^ 52 + m) % 2 ^ 52 ≡ m = omega arith in
     rw d at (rw e at (plain_value binary64 (j * 2 ^ 52 + m) (omega arith)))
 
-pub rooted : (x : Float) (d e m s v : ℕ) → Scale x d e → e % 2 + 52 ≡ s → v ≡ d * 2 ^ s → 2 ^ 104 ≤ v → v ≤ 2 ^ 106 - 2 ^ 53 → Near v m
-    → Root x (of_bits binary64 ((e - 52) / 2 * 2 ^ 52 + m)) × ((e - 52) / 2 * 2 ^ 52 + m < 2047 * 2 ^ 52)
-rooted x d e m s v c k w a b n =
+-- the digits of a root, and the root, of a number with this scale
+pub root_digits : (d e m : ℕ) → 2 ^ 52 ≤ d → d < 2 ^ 53 → Near (d * 2 ^ (e % 2 + 52)) m → (2 ^ 52 ≤ m) × (m < 2 ^ 53)
+root_digits d e m f s n =
+    let v = shifted d (e % 2) f s (omega arith) in
+    bounded (d * 2 ^ (e % 2 + 52)) m n v.0 v.1
+
+pub rooted : (x : Float) (d e m : ℕ) → Scale x d e → Near (d * 2 ^ (e % 2 + 52)) m → Root x (of_bits binary64 ((e - 52) / 2 * 2 ^ 52 + m))
+rooted x d e m c n =
     let j = (e - 52) / 2 in
-    let z = bounded v m n a b in
-    let t : j < 2046 = omega arith in
-    (record { v = v; j = j; m = m; scaled = cross; low = a; high = omega arith; near = n; full = z.0; digits = z.1; value = root-value j m t z.0 z.1 }, omega arith)
+    let v = shifted d (e % 2) c.full c.digits (omega arith) in
+    let z = root_digits d e m c.full c.digits n in
+    let t : j < 2046 = omega (arith, c.low, c.high) in
+    record { v = d * 2 ^ s; j = j; m = m; scaled = cross; low = v.0; high = omega arith; near = n; full = z.0; digits = z.1; value = root-value j m t z.0 z.1 }
   where
-    cross : num x * 2 ^ 2148 ≡ v * (2 ^ (2 * ((e - 52) / 2)) * den x)
+    s : ℕ
+    s = e % 2 + 52
+
+    cross : num x * 2 ^ 2148 ≡ d * 2 ^ s * (2 ^ (2 * ((e - 52) / 2)) * den x)
     cross =
         let W = 2 ^ (2 * ((e - 52) / 2)) in
-        let i : e ≡ s + 2 * ((e - 52) / 2) = omega arith in
+        let i : e ≡ s + 2 * ((e - 52) / 2) = omega (arith, c.low) in
         value→cross x (d * 2 ^ e) (2 ^ 2148) c.value ∙ ap (λ (z : ℕ). d * 2 ^ z * den x) i ∙ ap (λ (z : ℕ). d * z * den x) (pow-add 2 s (2 * ((e - 52) / 2)))
-        ∙ ap (λ (z : ℕ). z * den x) (sym (mul_assoc d (2 ^ s) W)) ∙ mul_assoc (d * 2 ^ s) W (den x) ∙ ap (λ (z : ℕ). z * (W * den x)) (sym w)
+        ∙ ap (λ (z : ℕ). z * den x) (sym (mul_assoc d (2 ^ s) W)) ∙ mul_assoc (d * 2 ^ s) W (den x)
 
 -- ---- every input: a NaN
-pub nan_root : (x : Float) → ne x x ≡ true → IsRoot x x
-nan_root x h = let e = differs_from_itself x (rw h tt) in rw e
+pub nan_root : (x : Float) → is_nan x ≡ true → IsRoot x x
+nan_root x h = let e = is_nan_lem x h in rw e
 
 -- a zero
 zero_root : (s : Bool) → IsRoot (of_fields binary64 s 0 0) (of_fields binary64 s 0 0)
@@ -167,6 +179,13 @@ positive_root (fin false (suc m) e) r p h = h
 
 pub positive_bits : (b : ℕ) → 0 < b → b < 2047 * 2 ^ 52 → T (positive (of_bits binary64 b))
 positive_bits b p h = positive_of_value (of_bits binary64 b) (mag binary64 b) (2 ^ 1074) (plain_value binary64 b h) (mag_pos binary64 b p)
+
+-- a normal number's pattern
+pub ordinary : (b : ℕ) → 2 ^ 52 ≤ b → b < 2047 * 2 ^ 52 → Ordinary (of_bits binary64 b)
+ordinary b l h =
+    let n = finite_number (of_bits binary64 b) (positive-finite (of_bits binary64 b) (positive_bits b (omega arith) h)) in
+    let e : to_bits binary64 (of_bits binary64 b) ≡ b = to_bits-of_bits binary64 b (omega arith) n in
+    record { number = n; low = rw e l; high = rw e h }
 
 pub at-number : (b : ℕ) (r : Float) → 0 < b → b < 2047 * 2 ^ 52 → Root (of_bits binary64 b) r → IsRoot (of_bits binary64 b) r
 at-number b r p h k = root_positive (of_bits binary64 b) r (positive_bits b p h) k

@@ -1,14 +1,13 @@
 -- Between functions: what they promise one another. No contract of an entry and no theorem rests on this file.
 -- A row of a cache as it is read, and the two parts of the row test (document 01, The arithmetic, Row valid).
-use Rattle.std.specs.Prelude.{Bool, cond, not, ◌&&◌, ℕ, ℤ, Float}
+use Rattle.std.specs.Prelude.{Bool, cond, not, ◌&&◌, Option, Some, None, ℕ, ℤ, Float}
 use Rattle.std.specs.Float.Ieee.{lt}
 use Rattle.std.specs.Float.Ieee.Scale.{finite}
 use Rattle.float.specs.Values.{plus_zero}
 use Rattle.config.specs.Metric.{is_cosine}
 use Rattle.config.specs.declared.Metric.{Metric}
 use Rattle.quantization.specs.View.{is_count}
-use Rattle.row.specs.declared.ReadRow.{ReadRow}
-use Rattle.row.specs.declared.ReadRow.TheVariants.{Scaled, Unscaled}
+use Rattle.quantization.specs.declared.Row.{Row}
 
 -- "scale finite and above 0"
 abbrev pub scale_test : Float → Bool
@@ -19,5 +18,5 @@ abbrev pub sums_test : Metric → ℤ → ℕ → Bool → Bool
 sums_test metric norm w whole = whole && is_count norm w && not (is_cosine metric && is_count norm 0)
 
 -- scale and norm as one value, where the scale passes
-unfoldable pub read_of : Float → ℤ → ReadRow
-read_of s n = cond (scale_test s) (Scaled (record { scale = s; norm = n })) Unscaled
+unfoldable pub read_of : Float → ℤ → Option Row
+read_of s n = cond (scale_test s) (Some (record { scale = s; norm = n })) None

@@ -17,15 +17,29 @@ ghost use Rattle.codes.specs.Codes.{part};
 ghost use Rattle.quantization.specs.View.{row_at, row_test, valid_row};
 ghost use Rattle.quantization.specs.Encoder.{Levels};
 
-use codes::Sums;
+use codes::{Check, Sums};
 use config::{Metric, Refusal};
 use quantization::Row;
 
-// A row of a cache, where its scale is finite and above 0.
+// A query: its scale and norm, and the root of the norm, which is taken once a search.
 #[derive(Clone, Copy)]
-pub enum ReadRow {
-    Scaled(Row),
-    Unscaled,
+pub struct Query {
+    pub row: Row,
+    pub root: f64,
+    pub ghost exact: { nat_abs row.norm ≤ 9007199254740992 },
+    pub ghost rooted: { root ≡ sqrt_of (of_int binary64 row.norm) },
+}
+
+impl Query {
+    pub fn new(row: Row) -> Query
+        requires { nat_abs row.norm ≤ 9007199254740992 }
+        ensures { result.row ≡ row }
+    {
+        Query {
+            row,
+            root: norm_root(row.norm),
+        }
+    }
 }
 
 #[derive(Clone, Copy)]
@@ -35,6 +49,7 @@ pub enum RowAnswer {
     Refused(Refusal),
 }
 
+// A whole number that a float holds exactly. Not `n as f64` at each use: here alone it is proved that the cast is exact.
 fn of_integer(n: i64) -> f64
     requires { nat_abs n ≤ 9007199254740992 }
     ensures { result ≡ of_int binary64 n }
@@ -42,7 +57,7 @@ fn of_integer(n: i64) -> f64
     n as f64
 }
 
-// The root of a norm: the query's is taken once a search.
+// The root of a norm.
 pub fn norm_root(norm: i64) -> f64
     requires { nat_abs norm ≤ 9007199254740992 }
     ensures { result ≡ sqrt_of (of_int binary64 norm) }
@@ -72,17 +87,16 @@ fn cosine_of(n: i64, root: f64, d: i64) -> f64
     float::hold(1.0 - of_integer(d) / (root::sqrt(of_integer(n)) * root))
 }
 
-pub fn approximate_distance(metric: Metric, row: Row, query: Row, root: f64, dot: i32) -> f64
-    requires { (nat_abs row.norm ≤ 9007199254740992) × (nat_abs query.norm ≤ 9007199254740992)
-        × (root ≡ sqrt_of (of_int binary64 query.norm)) }
-    ensures { result ≡ distance_of metric row.scale row.norm query.scale query.norm dot }
+pub fn approximate_distance(metric: Metric, row: Row, query: Query, dot: i32) -> f64
+    requires { nat_abs row.norm ≤ 9007199254740992 }
+    ensures { result ≡ distance_of metric row.scale row.norm query.row.scale query.row.norm dot }
 {
-    let n = row.norm;
+    let q = query.row;
     let d = dot as i64;
     match metric {
-        Metric::SquaredL2 => squared_l2(row.scale, n, query.scale, query.norm, d),
-        Metric::Cosine => cosine_of(n, root, d),
-        Metric::InnerProduct => inner_product(row.scale, query.scale, d),
+        Metric::SquaredL2 => squared_l2(row.scale, row.norm, q.scale, q.norm, d),
+        Metric::Cosine => cosine_of(row.norm, query.root, d),
+        Metric::InnerProduct => inner_product(row.scale, q.scale, d),
     }
 }
 
@@ -103,11 +117,11 @@ pub fn is_over(metric: Metric, row: Row, query: Row, dot: i32, bound: f64) -> bo
 }
 
 // The row test but for the scale: codes within the levels, and a norm that is their sum of squares and not 0 under cosine.
-pub fn sums_hold(metric: Metric, row: Row, squares: u32, whole: bool) -> bool
-    ensures { result ≡ sums_test metric row.norm squares whole }
+pub fn sums_hold(metric: Metric, row: Row, codes: Check) -> bool
+    ensures { result ≡ sums_test metric row.norm codes.squares codes.whole }
 {
     let norm = row.norm;
-    whole & (norm == squares as i64) & !(metric.is_cosine() & (norm == 0))
+    codes.whole & (norm == codes.squares as i64) & !(metric.is_cosine() & (norm == 0))
 }
 
 // An infinity is told by its bits: of two comparisons as numbers LLVM would make five operations on the bits.
@@ -121,25 +135,25 @@ pub fn scale_holds(scale: f64) -> bool
 }
 
 // The row test, from what was summed of the codes.
-pub fn valid(levels: u32, metric: Metric, row: Row, squares: u32, whole: bool) -> bool
-    ensures { result ≡ row_test levels metric row.scale row.norm squares whole }
+pub fn valid(levels: u32, metric: Metric, row: Row, codes: Check) -> bool
+    ensures { result ≡ row_test levels metric row.scale row.norm codes.squares codes.whole }
 {
-    scale_holds(row.scale) & sums_hold(metric, row, squares, whole)
+    scale_holds(row.scale) & sums_hold(metric, row, codes)
 }
 
-// Scale and norm at a place of a cache. The scale is tested by its bits, which is quicker, and only then read as a number.
-pub fn read_row(cache: &[u8], at: usize) -> ReadRow
+// Scale and norm at a place of a cache, where the scale is finite and above 0. The scale is tested by its bits, which is quicker, and only then read as a number.
+pub fn read_row(cache: &[u8], at: usize) -> Option<Row>
     requires { at + 16 ≤ length cache.now }
     ensures { result ≡ read_of (of_bits binary64 (le_at 8 cache.now at)) (to_z w64 (le_at 8 cache.now (at + 8))) }
 {
     let bits = le::u64_at(cache, at);
     if (0 < bits) & (bits < 9218868437227405312) {
-        return ReadRow::Scaled(Row {
-            scale: float::f64_value(bits),
+        return Some(Row {
+            scale: float::Pattern::value(bits),
             norm: le::i64_at(cache, at + 8),
         });
     }
-    ReadRow::Unscaled
+    None
 }
 
 // The row test, of the row of n codes at a place of a cache.
@@ -148,11 +162,12 @@ pub fn holds(levels: u32, metric: Metric, cache: &[u8], at: usize, n: usize) -> 
     ensures { result ≡ valid_row levels metric (row_at n cache.now at) }
 {
     match read_row(cache, at) {
-        ReadRow::Scaled(row) => {
-            let t = codes::row_check(levels as u8, cache, at + 16, n);
-            sums_hold(metric, row, t.squares, t.whole)
-        }
-        ReadRow::Unscaled => false,
+        Some(row) => sums_hold(
+            metric,
+            row,
+            codes::row_check(levels as u8, &cache[at + 16..at + 16 + n]),
+        ),
+        None => false,
     }
 }
 
@@ -168,8 +183,12 @@ pub fn holds_resident(
     requires { (at + n ≤ length codes.now) × (n ≤ 4096) × Levels levels }
     ensures { result ≡ valid_row levels metric (view_of row.scale row.norm (part n codes.now at)) }
 {
-    let t = codes::row_check_resident(levels as u8, codes, at, n);
-    valid(levels, metric, row, t.squares, t.whole)
+    valid(
+        levels,
+        metric,
+        row,
+        codes::row_check(levels as u8, &codes[at..at + n]),
+    )
 }
 
 // ---- What a row yields.
@@ -202,15 +221,11 @@ pub fn passed_over(valid: bool, place: u64) -> RowAnswer
 }
 
 // An eligible row whose scale has passed, from its sums: the rest of the row test, then the distance.
-fn scaled_row(metric: Metric, row: Row, sums: Sums, query: Row, root: f64, place: u64) -> RowAnswer
-    requires { (nat_abs query.norm ≤ 9007199254740992) × (root ≡ sqrt_of (of_int binary64 query.norm)) }
-    ensures { result ≡ answer (sums_test metric row.norm sums.squares sums.whole) true place (distance_of metric row.scale row.norm query.scale query.norm sums.dot) }
+fn scaled_row(metric: Metric, row: Row, sums: Sums, query: Query, place: u64) -> RowAnswer
+    ensures { result ≡ answer (sums_test metric row.norm sums.check.squares sums.check.whole) true place (distance_of metric row.scale row.norm query.row.scale query.row.norm sums.dot) }
 {
-    if sums_hold(metric, row, sums.squares, sums.whole) {
-        return measured(
-            approximate_distance(metric, row, query, root, sums.dot),
-            place,
-        );
+    if sums_hold(metric, row, sums.check) {
+        return measured(approximate_distance(metric, row, query, sums.dot), place);
     }
     refused(21, place)
 }
@@ -221,15 +236,13 @@ pub fn summed_row(
     metric: Metric,
     row: Row,
     sums: Sums,
-    query: Row,
-    root: f64,
+    query: Query,
     place: u64,
 ) -> RowAnswer
-    requires { (nat_abs query.norm ≤ 9007199254740992) × (root ≡ sqrt_of (of_int binary64 query.norm)) }
-    ensures { result ≡ answer (row_test levels metric row.scale row.norm sums.squares sums.whole) true place (distance_of metric row.scale row.norm query.scale query.norm sums.dot) }
+    ensures { result ≡ answer (row_test levels metric row.scale row.norm sums.check.squares sums.check.whole) true place (distance_of metric row.scale row.norm query.row.scale query.row.norm sums.dot) }
 {
     if scale_holds(row.scale) {
-        return scaled_row(metric, row, sums, query, root, place);
+        return scaled_row(metric, row, sums, query, place);
     }
     refused(21, place)
 }

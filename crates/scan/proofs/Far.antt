@@ -84,13 +84,13 @@ turned_scaled {v = v} s e R = record { turns = λ h top l q F f. rw e (R.turns h
 
 -- ---- and so has an answer over every key that is kept
 pub over-row : (levels : ℕ) (metric : Metric) (place : ℕ) (s : Float) (n : ℤ) (qs : Float) (qn : ℤ) (xs ys : List ℤ) (sums : Sums) {bound : Float} {top t : ℕ} {r : Bool}
-    → RowSums levels xs ys sums → TurnedAway qn bound t (scale_test s && sums_test metric n sums.squares sums.whole) (distance_of metric s n qs qn sums.dot) r
+    → RowSums levels xs ys sums → TurnedAway qn bound t (scale_test s && sums_test metric n sums.check.squares sums.check.whole) (distance_of metric s n qs qn sums.dot) r
     → r ≡ true → top < 2 ^ 64 → bound ≡ of_bits binary64 (bits_of top) → Far (sqrt_of (of_int binary64 qn)) top t
     → Over top (row_answer levels metric true place (view_of s n xs) (view_of qs qn ys))
 unfolding row_answer answer approximate
 over-row levels metric place s n qs qn xs ys sums {top = top} S R h l q F =
     let x = approximate metric (view_of s n xs) (view_of qs qn ys) in
-    let v = sym (tested levels metric s n xs S.squared S.whole) ∙ parts levels metric s n sums.squares sums.whole in
+    let v = sym (tested levels metric s n xs S.checked.squared S.checked.whole) ∙ parts levels metric s n sums.check.squares sums.check.whole in
     let p = rw S.dotted at (R.turns h top l q F (rw S.dotted (distance-fits metric (view_of s n xs) (view_of qs qn ys)))) in
     record { distance = x; is = rw (v, p.0) (sym (said place x (true_of (finite x) p.1))); over = p.2 }
 
@@ -103,7 +103,7 @@ module _ (levels : ℕ) (metric : Metric) (place : ℕ) (cache : List ℕ) (n : 
   pub over-cached : (at : ℕ) {start : ℕ} → at ≡ start → (qs : Float) (qn : ℤ) {bound : Float} {top t : ℕ} {r : Bool} → RowSums levels (part n (codes cache) (at + 16)) ys sums
       → let s = of_bits binary64 (le_at 8 cache at) in
       let m = to_z w64 (le_at 8 cache (at + 8)) in
-      TurnedAway qn bound t (scale_test s && sums_test metric m sums.squares sums.whole) (distance_of metric s m qs qn sums.dot) r
+      TurnedAway qn bound t (scale_test s && sums_test metric m sums.check.squares sums.check.whole) (distance_of metric s m qs qn sums.dot) r
       → r ≡ true → top < 2 ^ 64 → bound ≡ of_bits binary64 (bits_of top) → Far (sqrt_of (of_int binary64 qn)) top t
       → Over top (row_answer levels metric true place (row_at n cache start) (view_of qs qn ys))
   unfolding row_at
@@ -118,7 +118,7 @@ module _ (levels : ℕ) (metric : Metric) (place : ℕ) (codes : List ℤ) (scal
 
   pub over-resident : (at : ℕ) {s : Float} {m : ℤ} → at ≡ place * n → s ≡ get_or scales place nan → m ≡ get_or norms place (pos 0) → (qs : Float) (qn : ℤ) {bound : Float} {top t : ℕ} {r : Bool}
       → RowSums levels (part n codes at) ys sums
-      → TurnedAway qn bound t (scale_test s && sums_test metric m sums.squares sums.whole) (distance_of metric s m qs qn sums.dot) r
+      → TurnedAway qn bound t (scale_test s && sums_test metric m sums.check.squares sums.check.whole) (distance_of metric s m qs qn sums.dot) r
       → r ≡ true → top < 2 ^ 64 → bound ≡ of_bits binary64 (bits_of top) → Far (sqrt_of (of_int binary64 qn)) top t
       → Over top (row_answer levels metric true place (resident_at n codes scales norms place) (view_of qs qn ys))
   over-resident at {s} {m} e f g qs qn S R h l q F =

@@ -25,10 +25,10 @@ use Rattle.scan.proofs.Far.{entered_same, entered_over}
 -- the answer of an eligible row by its sums
 pub said_summed : (levels : ℕ) (metric : Metric) (place : ℕ) (v : View) (qs : Float) (qn : ℤ) (ys : List ℤ) (sums : Sums) {s : Float} {n : ℤ}
     → RowSums levels v.codes ys sums → s ≡ v.scale → n ≡ v.norm
-    → answer (row_test levels metric s n sums.squares sums.whole) true place (distance_of metric s n qs qn sums.dot) ≡ row_answer levels metric true place v (view_of qs qn ys)
+    → answer (row_test levels metric s n sums.check.squares sums.check.whole) true place (distance_of metric s n qs qn sums.dot) ≡ row_answer levels metric true place v (view_of qs qn ys)
 said_summed levels metric place v qs qn ys sums S e f =
     rw (e, f)
-    (as_summed levels metric place v.scale v.norm qs qn v.codes ys (tested levels metric v.scale v.norm v.codes S.squared S.whole) refl refl S.dotted)
+    (as_summed levels metric place v.scale v.norm qs qn v.codes ys (tested levels metric v.scale v.norm v.codes S.checked.squared S.checked.whole) refl refl S.dotted)
 
 -- scale and norm of a cached row
 pub read_cached : (n : ℕ) (cache : List ℕ) (at : ℕ) {start : ℕ} {s : Float} {m : ℤ} → at ≡ start → s ≡ of_bits binary64 (le_at 8 cache at) → m ≡ to_z w64 (le_at 8 cache (at + 8))

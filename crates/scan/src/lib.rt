@@ -36,7 +36,7 @@ use codes::Sums;
 use config::{Metric, Refusal};
 use format::Layout;
 use quantization::Row;
-use row::{ReadRow, RowAnswer};
+use row::{Query, RowAnswer};
 
 // A refusal, or how many candidates are kept, of how many eligible rows.
 #[derive(Clone, Copy)]
@@ -117,13 +117,13 @@ pub struct Ahead {
 // Whether a row whose scale has passed is turned away: by the number with the key that none may be over, under cosine by the limit t.
 fn turned_away(metric: Metric, row: Row, sums: Sums, query: Row, bound: f64, t: u32) -> bool
     requires { nat_abs query.norm ≤ 9007199254740992 }
-    ensures { TurnedAway query.norm bound t (sums_test metric row.norm sums.squares sums.whole) (distance_of metric row.scale row.norm query.scale query.norm sums.dot) result }
+    ensures { TurnedAway query.norm bound t (sums_test metric row.norm sums.check.squares sums.check.whole) (distance_of metric row.scale row.norm query.scale query.norm sums.dot) result }
 {
     if metric.is_cosine() {
-        return row::sums_hold(metric, row, sums.squares, sums.whole)
-            & cosine::is_far(sums.squares, sums.dot, t);
+        return row::sums_hold(metric, row, sums.check)
+            & cosine::is_far(sums.check.squares, sums.dot, t);
     }
-    if row::sums_hold(metric, row, sums.squares, sums.whole) {
+    if row::sums_hold(metric, row, sums.check) {
         return row::is_over(metric, row, query, sums.dot, bound);
     }
     false
@@ -145,7 +145,7 @@ fn row_at(cache: &[u8], at: usize) -> Row
         × (result.norm ≡ to_z w64 (le_at 8 cache.now (at + 8))) }
 {
     Row {
-        scale: float::f64_value(le::u64_at(cache, at)),
+        scale: float::Pattern::value(le::u64_at(cache, at)),
         norm: le::i64_at(cache, at + 8),
     }
 }
@@ -162,11 +162,11 @@ fn turned_away_cached(
     requires { (at + 16 ≤ length cache.now) × (nat_abs query.norm ≤ 9007199254740992) }
     ensures { let s = of_bits binary64 (le_at 8 cache.now at) in
         let n = to_z w64 (le_at 8 cache.now (at + 8)) in
-        TurnedAway query.norm bound t (scale_test s && sums_test metric n sums.squares sums.whole) (distance_of metric s n query.scale query.norm sums.dot) result }
+        TurnedAway query.norm bound t (scale_test s && sums_test metric n sums.check.squares sums.check.whole) (distance_of metric s n query.scale query.norm sums.dot) result }
 {
     match row::read_row(cache, at) {
-        ReadRow::Scaled(row) => turned_away(metric, row, sums, query, bound, t),
-        ReadRow::Unscaled => false,
+        Some(row) => turned_away(metric, row, sums, query, bound, t),
+        None => false,
     }
 }
 
@@ -193,7 +193,7 @@ fn ahead_cached(
     let mut at = start(cache.len(), rows, row, q.len());
     let mut i = row;
     while i < to {
-        let sums = codes::row_sums(levels as u8, cache, at + 16, q);
+        let sums = codes::row_sums(levels as u8, &cache[at + 16..at + 16 + q.len()], q);
         if !turned_away_cached(metric, cache, at, sums, query, bound, t) {
             return Ahead { row: i, sums: sums };
         }
@@ -202,11 +202,7 @@ fn ahead_cached(
     }
     Ahead {
         row: i,
-        sums: Sums {
-            dot: 0,
-            squares: 0,
-            whole: true,
-        },
+        sums: codes::NO_SUMS,
     }
 }
 
@@ -237,7 +233,14 @@ fn next_cached(
             let r = row_at(cache, start(cache.len(), rows, a.row, q.len()));
             return Next {
                 row: a.row,
-                answer: row::summed_row(levels, metric, r, a.sums, query, root, a.row as u64),
+                answer: row::summed_row(
+                    levels,
+                    metric,
+                    r,
+                    a.sums,
+                    Query { row: query, root },
+                    a.row as u64,
+                ),
             };
         }
         return Next {
@@ -274,7 +277,7 @@ fn turned_away_resident(
     t: u32,
 ) -> bool
     requires { nat_abs query.norm ≤ 9007199254740992 }
-    ensures { TurnedAway query.norm bound t (scale_test row.scale && sums_test metric row.norm sums.squares sums.whole) (distance_of metric row.scale row.norm query.scale query.norm sums.dot) result }
+    ensures { TurnedAway query.norm bound t (scale_test row.scale && sums_test metric row.norm sums.check.squares sums.check.whole) (distance_of metric row.scale row.norm query.scale query.norm sums.dot) result }
 {
     if row::scale_holds(row.scale) {
         return turned_away(metric, row, sums, query, bound, t);
@@ -305,7 +308,7 @@ fn ahead_resident(
     let mut at = row * stride;
     let mut i = row;
     while i < to {
-        let sums = codes::row_sums_resident(levels as u8, codes, at, q);
+        let sums = codes::row_sums(levels as u8, &codes[at..at + q.len()], q);
         let r = row_of(scales, norms, i);
         if !turned_away_resident(metric, r, sums, query, bound, t) {
             return Ahead { row: i, sums: sums };
@@ -315,11 +318,7 @@ fn ahead_resident(
     }
     Ahead {
         row: i,
-        sums: Sums {
-            dot: 0,
-            squares: 0,
-            whole: true,
-        },
+        sums: codes::NO_SUMS,
     }
 }
 
@@ -352,7 +351,14 @@ fn next_resident(
             let r = row_of(scales, norms, a.row);
             return Next {
                 row: a.row,
-                answer: row::summed_row(levels, metric, r, a.sums, query, root, a.row as u64),
+                answer: row::summed_row(
+                    levels,
+                    metric,
+                    r,
+                    a.sums,
+                    Query { row: query, root },
+                    a.row as u64,
+                ),
             };
         }
         return Next {

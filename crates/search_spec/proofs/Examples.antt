@@ -60,7 +60,7 @@ pub record Examples : Type 0 where
       ≡ replicate 8 false
 
 pub examples : Examples
-unfolding insert sort least passing by_distance among total_below span number bytes paste max_zero valid metric_of valid_config valid_space all valid_vector patterns_at dot squares within valid_row largest_from scale_by not_above code_of encode midpoints_of fold2 finished original squared_l2 distance_of approximate measured answer row_answer first_from generation_of sequence_of dimensions_of m_of ef_of seed_of metric_byte metric_at length_of_model model_of segments_of rows_of table_at entries_at length_of id_at segment_at offset_at metadata_at record_length opens_ok kind_ok identity_ok counts_ok head_number lengths_ok head_at rises entry_ok same_bytes same_config same_fields is_same_head start_of record_at parts_ok record_ok wants open_by query_by front_by is_eligible eligible eligible_rows encoded approximate_at original_at candidate_rows listed_rows exact_rows first_refusal row_refusal rows_refusal scan_refusal record_refusal records_refusal place_of measured_rows report_of list_of same_places agreement_of filled cleared late_refusal outcome_by searched agreed cached_rows resident_rows cache_length_ok resident_lengths_ok row_bytes row_at signed of_bits add sub mul div neg lt le eq is_nan of_int to_bits inverse clamp sqrt_of cosine_by
+unfolding insert sort least passing by_distance among total_below span number bytes paste max_zero valid metric_of valid_config valid_space valid_vector patterns_at dot squares within valid_row largest_from scale_by not_above code_of encode midpoints_of fold2 finished original squared_l2 distance_of approximate measured answer row_answer first_from generation_of sequence_of dimensions_of m_of ef_of seed_of metric_byte metric_at length_of_model model_of segments_of rows_of table_at entries_at length_of id_at segment_at offset_at metadata_at record_length opens_ok kind_ok identity_ok counts_ok head_number lengths_ok head_at rises entry_ok same_config same_fields is_same_head start_of record_at parts_ok record_ok wants open_by query_by front_by is_eligible eligible eligible_rows encoded approximate_at original_at candidate_rows listed_rows exact_rows first_refusal row_refusal rows_refusal scan_refusal record_refusal records_refusal place_of measured_rows report_of list_of same_places agreement_of filled cleared late_refusal outcome_by searched agreed cached_rows resident_rows cache_length_ok resident_lengths_ok row_bytes row_at signed of_bits add sub mul div neg lt le eq is_nan of_int to_bits inverse clamp sqrt_of cosine_by
 examples = record {
   document = record {
     report_1 = refl;

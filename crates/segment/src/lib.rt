@@ -2,7 +2,6 @@
 #![tactic(auto)]
 
 ghost use Rattle.std.specs.Prelude.{◌≡◌, true, map, ◌+◌, ◌*◌, ◌≤◌, ◌<◌, length};
-ghost use Rattle.crc32.specs.Tables.{slots};
 ghost use Rattle.format.specs.Fields.{segments_of, metric_at};
 ghost use Rattle.format.specs.Head.{head_number, lengths_ok};
 ghost use Rattle.format.specs.Layout.{LaidOut};
@@ -13,6 +12,7 @@ ghost use Rattle.segment.specs.Record.{start_of, record_at, metadata_start, part
 ghost use Rattle.segment.specs.Check.{bad_record, segment_crc_ok, segment_records_refusal, in_order, segments_refusal, checked_library};
 
 use config::{Metric, Refusal};
+use crc32::Tables;
 use format::Layout;
 use manifest::Checked;
 
@@ -131,17 +131,17 @@ fn crc_holds(
     m: &[u8],
     layout: Layout,
     starts: &[u64; 1025],
-    tables: &[u32; 2048],
+    tables: &Tables,
     s: &[u8],
     n: usize,
 ) -> bool
-    requires { LaidOut m.now layout × (rows_ok m.now ≡ true) × (starts.now ≡ starts_of m.now) × (tables.now ≡ slots)
+    requires { LaidOut m.now layout × (rows_ok m.now ≡ true) × (starts.now ≡ starts_of m.now)
         × (n < layout.segments) × (length s.now ≡ start_of m.now (segments_of m.now)) }
     ensures { result ≡ segment_crc_ok m.now s.now n }
 {
     let from = starts[n] as usize;
     let end = from + (format::segment_length(m, layout, n) as usize - 4);
-    let crc = crc32::crc32_with(tables, &s[from..end]);
+    let crc = tables.crc32(&s[from..end]);
     (crc == le::u32_at(s, end)) & (crc == format::segment_crc(m, layout, n))
 }
 
@@ -151,13 +151,13 @@ fn rows_refusal(
     layout: Layout,
     metric: Metric,
     starts: &[u64; 1025],
-    tables: &[u32; 2048],
+    tables: &Tables,
     s: &[u8],
     keys: &[u64],
     n: usize,
 ) -> Refusal
     requires { LaidOut m.now layout × (metric ≡ metric_at m.now) × (rows_ok m.now ≡ true) × (starts.now ≡ starts_of m.now)
-        × (tables.now ≡ slots) × Below layout.rows keys.now × (n < layout.segments)
+        × Below layout.rows keys.now × (n < layout.segments)
         × (length s.now ≡ start_of m.now (segments_of m.now)) }
     ensures { result ≡ segment_records_refusal m.now s.now n (map key_row keys.now) }
 {
@@ -192,7 +192,7 @@ fn in_order(
         × (keys.now ≡ row_keys m.now) × (length s.now ≡ start_of m.now (segments_of m.now)) }
     ensures { result ≡ in_order m.now s.now }
 {
-    let tables = crc32::tables();
+    let tables = Tables::new();
     let mut i = 0;
     let mut n = 0;
     while n < layout.segments {

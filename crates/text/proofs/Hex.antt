@@ -14,7 +14,7 @@ use Rattle.io.specs.Digits.{last_digits, IsDigitCount}
 use Rattle.text.specs.Digits.{hex_digit, hex_digits, hex16, read_from, digit_value}
 use Rattle.text.proofs.Decimal.{Every, every_append, IsDigit, read_append}
 
-pub io_hex : (k n : ℕ) → last_digits 16 k n ≡ hex_digits k n
+io_hex : (k n : ℕ) → last_digits 16 k n ≡ hex_digits k n
 unfolding hex_digits hex_digit
 io_hex zero n = refl
 io_hex (suc k) n = rw (io_hex k (n / 16))
@@ -29,7 +29,7 @@ unfolding hex16
 length_hex16 n = length_hex 16 n
 
 -- sixteen digits are the fewest that hold a u64, where sixteen are asked for
-pub sixteen : (n k : ℕ) → n < 2 ^ 64 → IsDigitCount 16 16 n k → k ≡ 16
+sixteen : (n k : ℕ) → n < 2 ^ 64 → IsDigitCount 16 16 n k → k ≡ 16
 sixteen n k h f =
     ⊎_elim
     (λ l.
@@ -40,6 +40,10 @@ sixteen n k h f =
     absurd (omega arith))
     (λ l. omega arith)
     (lt_or_le 16 k)
+
+pub io_hex16 : (n k : ℕ) → n < 2 ^ 64 → IsDigitCount 16 16 n k → last_digits 16 k n ≡ hex16 n
+unfolding hex16
+io_hex16 n k h f = io_hex k n ∙ rw (sixteen n k h f)
 
 -- ---- its digits: lower case
 

@@ -83,7 +83,7 @@ segments =
     ++ bytes 4 0x890b269e
 
 passes : (library_refusal manifest crc 2 segments).number ≡ 0
-unfolding span number bytes valid metric_of valid_config valid_space all valid_vector patterns_at first_from generation_of sequence_of dimensions_of m_of ef_of seed_of metric_byte metric_at length_of_model model_of segments_of rows_of table_at entries_at length_of id_at segment_at offset_at metadata_at record_length opens_ok kind_ok identity_ok counts_ok head_number lengths_ok rises entry_ok start_of record_at parts_ok record_ok of_bits eq library_refusal manifest_number plan_number rows_ok crc_ok ends_in_crc crc32 update steps step tiled covers follow in_segment physical position segments_refusal first_refusal segment_records_refusal segment_crc_ok stored_crc crc_of sort insert passing by_key
+unfolding span number bytes valid metric_of valid_config valid_space valid_vector patterns_at first_from generation_of sequence_of dimensions_of m_of ef_of seed_of metric_byte metric_at length_of_model model_of segments_of rows_of table_at entries_at length_of id_at segment_at offset_at metadata_at record_length opens_ok kind_ok identity_ok counts_ok head_number lengths_ok rises entry_ok start_of record_at parts_ok record_ok of_bits eq library_refusal manifest_number plan_number rows_ok crc_ok ends_in_crc crc32 update steps step tiled covers follow in_segment physical position segments_refusal first_refusal segment_records_refusal segment_crc_ok stored_crc crc_of sort insert passing by_key
 passes = refl
 
 accepted : Accepted manifest segments
@@ -92,13 +92,12 @@ accepted = record { expected = crc; scratch = 2; passes = passes }
 -- ---- its cache and its slices, of whatever was lent
 
 bytes-held : (s : List ℕ) → all (λ x. ltb x 256) s ≡ true → Bytes s
-unfolding all
 bytes-held [] h b i = absurd i
 bytes-held (x ∷ s) h b (inl e) = rw e (ltb-true x 256 (both {a = ltb x 256} h).0)
 bytes-held (x ∷ s) h b (inr i) = bytes-held s (both {a = ltb x 256} h).1 b i
 
 manifest-bytes : Bytes manifest
-unfolding all bytes
+unfolding bytes
 manifest-bytes = bytes-held manifest refl
 
 two-rows : rows_of manifest ≤ 2
@@ -139,11 +138,11 @@ prepared = record {
 }
 
 platform-bytes : Bytes prepared.platform
-unfolding prepared all
+unfolding prepared
 platform-bytes = bytes-held platform refl
 
 root-bytes : Bytes prepared.root
-unfolding prepared all
+unfolding prepared
 root-bytes = bytes-held root refl
 
 opens : Opens manifest cache (state_of manifest cache)
@@ -193,7 +192,7 @@ call limit =
     (work_of (9 ∷ 9 ∷ []) (9 ∷ 9 ∷ []) [])
 
 answerable : (limit : ℕ) → 1 ≤ limit → limit ≤ 65536 → Answerable (call limit)
-unfolding number bytes metric_of rows_of dimensions_of length_of_model metric_byte metric_at all valid_vector fits
+unfolding number bytes metric_of rows_of dimensions_of length_of_model metric_byte metric_at valid_vector fits
 answerable limit low high = record {
   query = refl;
   singles = refl;
@@ -219,7 +218,7 @@ rows = record { encoding = base; length_ok = true; at = row_of base_levels midpo
 
 -- both have one approximate distance, so that row 0 is the candidate
 listed_0 : listed_rows rows (call 1) ≡ 0 ∷ []
-unfolding number bytes lt le eq add sub mul neg is_nan of_bits of_int max_zero total_below insert sort least passing by_distance metric_of all patterns_at dot squares largest_from scale_by not_above code_of encode midpoints_of fold2 finished original squared_l2 distance_of approximate dimensions_of metric_byte metric_at length_of_model segments_of rows_of table_at entries_at length_of id_at segment_at offset_at start_of record_at wants is_eligible eligible eligible_rows encoded approximate_at original_at candidate_rows listed_rows div
+unfolding number bytes lt le eq add sub mul neg is_nan of_bits of_int max_zero total_below insert sort least passing by_distance metric_of patterns_at dot squares largest_from scale_by not_above code_of encode midpoints_of fold2 finished original squared_l2 distance_of approximate dimensions_of metric_byte metric_at length_of_model segments_of rows_of table_at entries_at length_of id_at segment_at offset_at start_of record_at wants is_eligible eligible eligible_rows encoded approximate_at original_at candidate_rows listed_rows div
 listed_0 = refl
 
 -- which is nearest too

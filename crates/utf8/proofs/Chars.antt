@@ -1,22 +1,22 @@
 -- The first character of a list that is long enough or ends, by the tests of the grammar.
-use mathlib.Core.Path.{◌≡◌, refl, sym, ap, ◌∙◌}
-use mathlib.Core.Bool.{Bool, true, false, and-false, or-false, false≢true}
+use mathlib.Core.Path.{◌≡◌, refl, sym, ◌∙◌}
+use mathlib.Core.Bool.{Bool, true, false, cond, ◌&&◌, and-false, or-false, false≢true}
+use Rattle.std.specs.Prelude.{Option, Some, None}
 use mathlib.Core.List.{List, [], ◌∷◌}
-use Prim.Native.Nat.{ℕ, ◌+◌, ◌<◌, ◌≤◌}
+use Prim.Native.Nat.{ℕ, ◌-◌, ◌<◌, ◌≤◌}
 use native.Mathlib.Omega.{arith}
-use native.Mathlib.Numerals.{add-one}
-use borrow.Author.Tests.{lt-leb, ltb-true, ltb-false}
+use borrow.Author.Tests.{lt-leb, lt-ltb, ltb-true, ltb-false}
 use lib.Dec.{leb, ltb}
-use lib.ListN.{length, get_or, drop, length-drop, drop_of_length-le}
-use lib.Seq.{drop-drop, drop-cons}
+use lib.ListN.{length, get_or, take, drop, length-drop}
+use lib.Seq.{take_all}
 use Rattle.le.proofs.Chain.{by}
 use Rattle.utf8.specs.Grammar.{span, one, two, three, four}
 use Rattle.utf8.specs.Utf8.{valid, valid₁, valid₂, valid₃, width, width₁, width₂, width₃, stage}
 
--- r is the length of the first character of l, and 0 where l starts with none
-pub record Char (l : List ℕ) (r : ℕ) : Type 0 where
-  pub none : r ≡ 0 → valid l ≡ false
-  pub some : 0 < r → (r ≤ length l) × (valid l ≡ valid (drop r l))
+-- what the length of the first character says of the list
+abbrev pub Char : List ℕ → Option ℕ → Type 0
+Char l None = valid l ≡ false
+Char l (Some n) = (0 < n) × (n ≤ length l) × (valid l ≡ valid (drop n l))
 
 span_below : (lo hi x : ℕ) → x < lo → span lo hi x ≡ false
 unfolding span
@@ -59,48 +59,41 @@ unfolding valid
 no₁ [] a h = refl
 no₁ (b ∷ s) a h = rw (span_below 0xC2 0xDF a (omega arith)) (no₂ s a b (omega arith))
 
-module _ {l : List ℕ} {r : ℕ} where
-  no_char : r ≡ 0 → valid l ≡ false → Char l r
-  no_char e h = record { none = λ z. h; some = λ z. absurd (omega arith) }
-
-  a_char : 0 < r → r ≤ length l → valid l ≡ valid (drop r l) → Char l r
-  a_char p n h = record { none = λ z. absurd (omega arith); some = λ z. (n, h) }
-
 -- where the list goes on, and where it ends
 module _ (a : ℕ) (h₁ : one a ≡ false) where
-  short₁ : Char (a ∷ []) 0
+  short₁ : Char (a ∷ []) None
   unfolding valid
-  short₁ = no_char refl (rw h₁)
+  short₁ = rw h₁
 
-  has₂ : (b : ℕ) (s : List ℕ) → two a b ≡ true → Char (a ∷ b ∷ s) 2
+  has₂ : (b : ℕ) (s : List ℕ) → two a b ≡ true → Char (a ∷ b ∷ s) (Some 2)
   unfolding valid
-  has₂ b s e = a_char (omega arith) (omega arith) (rw (h₁, e, no₂ s a b (two_lt a b e)) (or-false (valid s)))
+  has₂ b s e = (omega arith, omega arith, rw (h₁, e, no₂ s a b (two_lt a b e)) (or-false (valid s)))
 
   module _ (b : ℕ) (h₂ : two a b ≡ false) where
-    short₂ : Char (a ∷ b ∷ []) 0
+    short₂ : Char (a ∷ b ∷ []) None
     unfolding valid
-    short₂ = no_char refl (rw (h₁, h₂))
+    short₂ = rw (h₁, h₂)
 
-    has₃ : (c : ℕ) (s : List ℕ) → three a b c ≡ true → Char (a ∷ b ∷ c ∷ s) 3
+    has₃ : (c : ℕ) (s : List ℕ) → three a b c ≡ true → Char (a ∷ b ∷ c ∷ s) (Some 3)
     unfolding valid
-    has₃ c s e = a_char (omega arith) (omega arith) (rw (h₁, h₂, e, no₃ s a b c (three_lt a b c e)) (or-false (valid s)))
+    has₃ c s e = (omega arith, omega arith, rw (h₁, h₂, e, no₃ s a b c (three_lt a b c e)) (or-false (valid s)))
 
     module _ (c : ℕ) (h₃ : three a b c ≡ false) where
-      short₃ : Char (a ∷ b ∷ c ∷ []) 0
+      short₃ : Char (a ∷ b ∷ c ∷ []) None
       unfolding valid
-      short₃ = no_char refl (rw (h₁, h₂, h₃))
+      short₃ = rw (h₁, h₂, h₃)
 
-      has₄ : (d : ℕ) (s : List ℕ) → four a b c d ≡ true → Char (a ∷ b ∷ c ∷ d ∷ s) 4
+      has₄ : (d : ℕ) (s : List ℕ) → four a b c d ≡ true → Char (a ∷ b ∷ c ∷ d ∷ s) (Some 4)
       unfolding valid
-      has₄ d s e = a_char (omega arith) (omega arith) (rw (h₁, h₂, h₃, e))
+      has₄ d s e = (omega arith, omega arith, rw (h₁, h₂, h₃, e))
 
-      none₄ : (d : ℕ) (s : List ℕ) → four a b c d ≡ false → Char (a ∷ b ∷ c ∷ d ∷ s) 0
+      none₄ : (d : ℕ) (s : List ℕ) → four a b c d ≡ false → Char (a ∷ b ∷ c ∷ d ∷ s) None
       unfolding valid
-      none₄ d s e = no_char refl (rw (h₁, h₂, h₃, e))
+      none₄ d s e = rw (h₁, h₂, h₃, e)
 
-has₁ : (a : ℕ) (s : List ℕ) → one a ≡ true → Char (a ∷ s) 1
+has₁ : (a : ℕ) (s : List ℕ) → one a ≡ true → Char (a ∷ s) (Some 1)
 unfolding valid
-has₁ a s e = a_char (omega arith) (omega arith) (rw (e, no₁ s a (omega (arith, one_lt a e))) (or-false (valid s)))
+has₁ a s e = (omega arith, omega arith, rw (e, no₁ s a (omega (arith, one_lt a e))) (or-false (valid s)))
 
 -- the code's walk: `width` is the length of the first character
 char₃ : (a b c : ℕ) (s : List ℕ) → one a ≡ false → two a b ≡ false → three a b c ≡ false → Char (a ∷ b ∷ c ∷ s) (width₃ a b c s)
@@ -123,27 +116,32 @@ unfolding width stage
 char [] h = absurd (omega arith)
 char (a ∷ s) h = by (one a) (λ e. rw e (has₁ a s e)) (λ e. rw e (char₁ a s e))
 
--- one turn of the loop
-pub skip : (s : List ℕ) (i r : ℕ) → i < length s → r ≡ width (drop i s) → 0 < r → (i + r ≤ length s) × (valid (drop i s) ≡ valid (drop (i + r) s))
-skip s i r h e l =
-    let n = length-drop i s in
-    let k = (rw (← e) at (char (drop i s) (omega arith))).some l in
-    (omega (arith, k.0), k.1 ∙ ap valid (drop-drop r i s))
+-- the loop: a turn, and both ends
+pub passed : (l : List ℕ) {n : ℕ} → 0 < length l → Some n ≡ width l → valid (take (length l - n) (drop n l)) ≡ valid l
+passed l {n} h e =
+    let k = rw (sym e) at (char l h) in
+    let m : length (drop n l) ≤ length l - n = omega (arith, length-drop n l) in
+    rw (take_all (length l - n) (drop n l) m) (sym k.2)
 
-pub stop : (s : List ℕ) (i r : ℕ) → i < length s → r ≡ width (drop i s) → r ≡ 0 → valid (drop i s) ≡ false
-stop s i r h e z = let n = length-drop i s in (rw (← e) at (char (drop i s) (omega arith))).none z
+pub stopped : (l : List ℕ) → 0 < length l → None ≡ width l → valid l ≡ false
+stopped l h e = rw (sym e) at (char l h)
 
--- a stage of the code: nothing is left, the byte at i passes, or the character goes on
-module _ (test : ℕ → Bool) (n : ℕ) (rest : ℕ → List ℕ → ℕ) (s : List ℕ) (i : ℕ) where
-  pub ended : length s ≤ i → 0 ≡ stage test n rest (drop i s)
-  unfolding stage
-  ended h = rw (drop_of_length-le s h)
+pub ended : (l : List ℕ) → length l ≡ 0 → valid l ≡ true
+unfolding valid
+ended [] h = refl
+ended (x ∷ s) h = absurd (omega arith)
 
-  module _ (h : i < length s) {b : Bool} (e : b ≡ test (get_or s i 0)) where
-    pub here : b ≡ true → n ≡ stage test n rest (drop i s)
-    unfolding stage
-    here t = rw (drop-cons s i 0 h, ← e, t)
-
-    pub on : b ≡ false → {r : ℕ} → r ≡ rest (get_or s i 0) (drop (i + 1) s) → r ≡ stage test n rest (drop i s)
-    unfolding stage
-    on t q = rw (drop-cons s i 0 h, ← e, t) (q ∙ ap (λ k. rest (get_or s i 0) (drop k s)) (add-one i))
+-- `width` by the bytes' indices, as the code tests them
+pub by_index : (l : List ℕ) → width l
+    ≡ cond (ltb 0 (length l) && one (get_or l 0 0)) (Some 1)
+    (cond (ltb 1 (length l) && two (get_or l 0 0) (get_or l 1 0)) (Some 2)
+    (cond (ltb 2 (length l) && three (get_or l 0 0) (get_or l 1 0) (get_or l 2 0)) (Some 3)
+    (cond (ltb 3 (length l) && four (get_or l 0 0) (get_or l 1 0) (get_or l 2 0) (get_or l 3 0)) (Some 4) None)))
+unfolding width width₁ width₂ width₃ stage
+by_index [] = refl
+by_index (a ∷ []) = refl
+by_index (a ∷ b ∷ []) = refl
+by_index (a ∷ b ∷ c ∷ []) = refl
+by_index (a ∷ b ∷ c ∷ d ∷ s) =
+    let n = length (a ∷ b ∷ c ∷ d ∷ s) in
+    rw (lt-ltb 0 n (omega arith), lt-ltb 1 n (omega arith), lt-ltb 2 n (omega arith), lt-ltb 3 n (omega arith))

@@ -1,5 +1,5 @@
 -- The grammar as a test that computes; `proofs/Grammar.antt` proves that `valid s` is true exactly of the `Octets`.
-use Rattle.std.specs.Prelude.{Bool, true, false, ◌&&◌, ◌||◌, cond, List, [], ◌∷◌, ℕ}
+use Rattle.std.specs.Prelude.{Bool, true, false, ◌&&◌, ◌||◌, cond, List, [], ◌∷◌, ℕ, Option, Some, None}
 use Rattle.utf8.specs.Grammar.{one, two, three, four}
 
 -- nothing, or a character and what is valid after it
@@ -21,19 +21,19 @@ unfoldable mutual
   valid₃ (d ∷ s) a b c = four a b c d && valid s
 
 -- the next byte x of a character: where it passes the test, the character is n bytes long; else it goes on as `rest` says
-unfoldable pub stage : (ℕ → Bool) → ℕ → (ℕ → List ℕ → ℕ) → List ℕ → ℕ
-stage test n rest [] = 0
-stage test n rest (x ∷ s) = cond (test x) n (rest x s)
+unfoldable pub stage : (ℕ → Bool) → ℕ → (ℕ → List ℕ → Option ℕ) → List ℕ → Option ℕ
+stage test n rest [] = None
+stage test n rest (x ∷ s) = cond (test x) (Some n) (rest x s)
 
--- the length of the character that a list starts with, and 0 where there is none: after three of its bytes, two, one, none
-unfoldable pub width₃ : ℕ → ℕ → ℕ → List ℕ → ℕ
-width₃ a b c = stage (four a b c) 4 (λ d s. 0)
+-- the length of the character that a list starts with: after three of its bytes, two, one, none
+unfoldable pub width₃ : ℕ → ℕ → ℕ → List ℕ → Option ℕ
+width₃ a b c = stage (four a b c) 4 (λ d s. None)
 
-unfoldable pub width₂ : ℕ → ℕ → List ℕ → ℕ
+unfoldable pub width₂ : ℕ → ℕ → List ℕ → Option ℕ
 width₂ a b = stage (three a b) 3 (width₃ a b)
 
-unfoldable pub width₁ : ℕ → List ℕ → ℕ
+unfoldable pub width₁ : ℕ → List ℕ → Option ℕ
 width₁ a = stage (two a) 2 (width₂ a)
 
-unfoldable pub width : List ℕ → ℕ
+unfoldable pub width : List ℕ → Option ℕ
 width = stage one 1 width₁

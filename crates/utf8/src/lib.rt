@@ -1,9 +1,11 @@
 // UTF-8 by the grammar of RFC 3629: what `str::from_utf8` accepts.
 #![tactic(auto)]
 
-ghost use Rattle.std.specs.Prelude.{◌≡◌, ◌<◌, ◌≤◌, length, drop};
+ghost use Rattle.std.specs.Prelude.{◌≡◌, ◌<◌, ◌≤◌, IfSome, length};
 ghost use Rattle.utf8.specs.Grammar.{one as is_one, two as is_two, three as is_three, four as is_four, tail as is_tail, span as in_span};
-ghost use Rattle.utf8.specs.Utf8.{valid as is_valid, width as width_of, width₁, width₂, width₃};
+ghost use Rattle.utf8.specs.Utf8.{valid as is_valid, width as width_of};
+
+// The tests are the grammar's lines, one function each.
 
 fn span(lo: u8, hi: u8, x: u8) -> bool
     ensures { result ≡ in_span lo hi x }
@@ -49,71 +51,31 @@ fn four(a: u8, b: u8, c: u8, d: u8) -> bool
         & tail(d)
 }
 
-// The length of the character that a, b, c start and that goes on at i, or 0 where there is none; likewise the two below.
-fn after_three(s: &[u8], i: usize, a: u8, b: u8, c: u8) -> usize
-    requires { i ≤ length s.now }
-    ensures { result ≡ width₃ a b c (drop i s.now) }
+// The length of the character that s starts with.
+#[tactic(auto, using(crate::proofs::Chars::by_index))]
+fn width(s: &[u8]) -> Option<usize>
+    ensures value { result ≡ width_of s.now }
+    ensures within { IfSome result (λ n. (0 < n) × (n ≤ length s.now)) }
 {
-    if s.len() <= i {
-        return 0;
+    match s {
+        [a, ..] if one(*a) => Some(1),
+        [a, b, ..] if two(*a, *b) => Some(2),
+        [a, b, c, ..] if three(*a, *b, *c) => Some(3),
+        [a, b, c, d, ..] if four(*a, *b, *c, *d) => Some(4),
+        _ => None,
     }
-    if four(a, b, c, s[i]) {
-        return 4;
-    }
-    0
-}
-
-fn after_two(s: &[u8], i: usize, a: u8, b: u8) -> usize
-    requires { i ≤ length s.now }
-    ensures { result ≡ width₂ a b (drop i s.now) }
-{
-    if s.len() <= i {
-        return 0;
-    }
-    let c = s[i];
-    if three(a, b, c) {
-        return 3;
-    }
-    after_three(s, i + 1, a, b, c)
-}
-
-fn after_one(s: &[u8], i: usize, a: u8) -> usize
-    requires { i ≤ length s.now }
-    ensures { result ≡ width₁ a (drop i s.now) }
-{
-    if s.len() <= i {
-        return 0;
-    }
-    let b = s[i];
-    if two(a, b) {
-        return 2;
-    }
-    after_two(s, i + 1, a, b)
-}
-
-// The length of the character at i, or 0 where none stands there.
-fn width(s: &[u8], i: usize) -> usize
-    requires { i < length s.now }
-    ensures { result ≡ width_of (drop i s.now) }
-{
-    let a = s[i];
-    if one(a) {
-        return 1;
-    }
-    after_one(s, i + 1, a)
 }
 
 // Whether s is UTF-8. A part of a slice is lent as such.
 pub fn valid(s: &[u8]) -> bool
     ensures { result ≡ is_valid s.now }
 {
-    let mut i = 0;
-    while i < s.len() {
-        let n = width(s, i);
-        if n == 0 {
+    let mut rest = s;
+    while !rest.is_empty() {
+        let Some(n) = width(rest) else {
             return false;
-        }
-        i += n;
+        };
+        rest = &rest[n..];
     }
     true
 }

@@ -3,54 +3,55 @@
 // results is `nan`.
 #![tactic(auto)]
 
-fn space() {
-    io::write_all(1, b" ");
-}
+use std::fmt;
+use std::io::{BufWriter, Read, Result, Write};
 
-fn hex(v: u64) {
-    io::print_hex(1, v, 16);
-}
+// The pattern of a result.
+#[derive(Drop)]
+struct Pattern(f64);
 
-fn value(x: f64) {
-    if x != x {
-        io::write_all(1, b"nan");
-    } else {
-        hex(f64::to_bits(x));
+impl fmt::Display for Pattern {
+    fn fmt<W: fmt::Write>(&self, f: &mut fmt::Formatter<W>) -> fmt::Result {
+        if self.0.is_nan() {
+            f.write_str("nan")
+        } else {
+            write!(f, "{:016x}", self.0.to_bits())
+        }
     }
 }
 
-fn key(x: f64) {
-    if x != x {
-        io::write_all(1, b"-");
-    } else {
-        hex(float::key(x));
+// The order key of a number.
+#[derive(Drop)]
+struct Key(f64);
+
+impl fmt::Display for Key {
+    fn fmt<W: fmt::Write>(&self, f: &mut fmt::Formatter<W>) -> fmt::Result {
+        if self.0.is_nan() {
+            f.write_str("-")
+        } else {
+            write!(f, "{:016x}", float::key(self.0))
+        }
     }
 }
 
-fn line(bits: u64) {
-    let x = float::f64_value(bits);
-    hex(bits);
-    space();
-    value(root::sqrt(x));
-    space();
-    key(x);
-    space();
-    value(float::max_zero(x));
-    space();
-    value(float::hold(x));
-    io::write_all(1, b"\n");
+fn line<W: Write>(out: &mut W, bits: u64) -> Result<()> {
+    let x = float::Pattern::value(bits);
+    writeln!(
+        out,
+        "{bits:016x} {} {} {} {}",
+        Pattern(root::sqrt(x)),
+        Key(x),
+        Pattern(float::max_zero(x)),
+        Pattern(float::hold(x))
+    )
 }
 
-fn lines(s: &[u8]) {
-    let mut at = 0;
-    while 8 <= s.len() - at {
-        line(le::u64_at(s, at));
-        at += 8;
+fn main(rt: HostRuntime) -> Result<()> {
+    let mut patterns = Vec::new(rt.alloc());
+    rt.stdin().read_to_end(&mut patterns)?;
+    let mut out = BufWriter::new(rt.alloc(), rt.stdout())?;
+    for bits in patterns.chunks_exact(8) {
+        line(&mut out, le::u64_at(bits, 0))?;
     }
-}
-
-fn main() {
-    let mut buf = io::large_buffer();
-    let n = io::read_full(0, &mut buf);
-    lines(&buf[..n]);
+    out.flush()
 }

@@ -2,103 +2,67 @@
 // the lengths of name, manifest and segments (u32 each), then these three. make/cases.py says what is printed of each.
 #![tactic(auto)]
 
-ghost use Rattle.std.specs.Prelude.{◌≤◌, length};
-
 use config::Refusal;
 use format::Head;
-
-fn index(x: u32) -> usize {
-    x as usize
-}
-
-fn wide(x: u8) -> u64 {
-    x as u64
-}
-
-fn number(x: u64) {
-    io::print_decimal(1, x);
-    io::write_all(1, b" ");
-}
-
-fn size(x: usize) {
-    number(x as u64);
-}
+use std::alloc::Global;
+use std::fmt;
+use std::io::{BufRead, BufReader, BufWriter, Read, Result, Write};
 
 // What is lent as scratch: 1, 2, 3 ..
-fn fill(s: &mut [u64])
-    requires { length s.old ≤ 4096 }
-{
-    let mut i = 0;
-    while i < s.len() {
-        s[i] = i as u64 + 1;
-        i += 1;
+fn fill(s: &mut [u64]) {
+    for (i, x) in s.iter_mut().enumerate() {
+        *x = i as u64 + 1;
     }
 }
 
 // What has become of it.
-fn print_scratch(s: &[u64])
-    requires { length s.now ≤ 4096 }
-{
-    let mut kept = true;
-    let mut zero = true;
-    let mut i = 0;
-    while i < s.len() {
-        kept = kept & (s[i] == i as u64 + 1);
-        zero = zero & (s[i] == 0);
-        i += 1;
-    }
-    if kept {
-        io::write_all(1, b"kept ");
-    } else if zero {
-        io::write_all(1, b"zero ");
+fn state(s: &[u64]) -> &'static str {
+    if s.iter().enumerate().all(|(i, x)| *x == i as u64 + 1) {
+        "kept"
+    } else if s.iter().all(|x| *x == 0) {
+        "zero"
     } else {
-        io::write_all(1, b"changed ");
+        "changed"
     }
 }
 
-// Prints the first n bytes of the model; whether all others are 0.
-fn print_model(model: &[u8; 512], n: usize) -> bool {
-    let mut rest = true;
-    let mut i = 0;
-    while i < 512 {
-        if i < n {
-            io::print_hex(1, wide(model[i]), 2);
-        } else {
-            rest = rest & (model[i] == 0);
-        }
-        i += 1;
+// The bytes of a model up to its length, with a + behind them where another is not 0.
+fn print_model<W: Write>(out: &mut W, h: &Head) -> Result<()> {
+    let (model, rest) = h.model.split_at(h.model_length.min(512));
+    for b in model {
+        write!(out, "{b:02x}")?;
     }
-    rest
+    if rest.iter().all(|b| *b == 0) {
+        write!(out, " ")
+    } else {
+        write!(out, "+ ")
+    }
 }
 
-// The head's fields, with a + behind the model where a byte past its length is not 0.
-fn print_head(h: Head) {
+fn print_head<W: Write>(out: &mut W, h: Head) -> Result<()> {
     let c = h.config;
     let metric = c.metric;
-    let model = h.model;
-    size(h.length);
-    number(h.generation);
-    number(h.sequence);
-    size(c.dimensions);
-    size(c.m);
-    size(c.ef_construction);
-    number(c.seed);
-    number(wide(metric.byte()));
-    size(h.model_length);
-    if print_model(&model, h.model_length) {
-        io::write_all(1, b" ");
-    } else {
-        io::write_all(1, b"+ ");
-    }
-    size(h.segments);
-    size(h.rows);
+    write!(
+        out,
+        "{} {} {} {} {} {} {} {} {} ",
+        h.length,
+        h.generation,
+        h.sequence,
+        c.dimensions,
+        c.m,
+        c.ef_construction,
+        c.seed,
+        metric.byte(),
+        h.model_length
+    )?;
+    print_model(out, &h)?;
+    write!(out, "{} {} ", h.segments, h.rows)
 }
 
 // Whether every field of a refusal's head is 0: `-`, or `head` where it is not so.
-fn print_no_head(h: Head) {
+fn print_no_head<W: Write>(out: &mut W, h: Head) -> Result<()> {
     let c = h.config;
     let metric = c.metric;
-    let model = h.model;
     let zero = (h.length == 0)
         & (h.generation == 0)
         & (h.sequence == 0)
@@ -110,109 +74,59 @@ fn print_no_head(h: Head) {
         & (h.model_length == 0)
         & (h.segments == 0)
         & (h.rows == 0);
-    if zero & print_model(&model, 0) {
-        io::write_all(1, b"- ");
+    if zero & h.model.iter().all(|b| *b == 0) {
+        write!(out, "- ")
     } else {
-        io::write_all(1, b"head ");
+        write!(out, "head ")
     }
 }
 
-fn print_answer(e: Refusal, h: Head, scratch: &[u64])
-    requires { length scratch.now ≤ 4096 }
-{
-    number(e.number as u64);
-    number(e.place);
+fn print_answer<W: Write>(out: &mut W, e: Refusal, h: Head, scratch: &[u64]) -> Result<()> {
+    write!(out, "{} {} ", e.number, e.place)?;
     if e.number == 0 {
-        print_head(h);
+        print_head(out, h)?;
     } else {
-        print_no_head(h);
+        print_no_head(out, h)?;
     }
-    print_scratch(scratch);
+    write!(out, "{} ", state(scratch))
 }
 
-fn manifest_part(manifest: &[u8], expected_crc: u32, scratch: &mut [u64])
-    requires { length scratch.old ≤ 4096 }
-{
-    fill(scratch);
-    let r = manifest::check(manifest, expected_crc, scratch);
-    print_answer(r.refusal, r.head, scratch);
+// So many bytes of the input.
+fn bytes<R: Read>(input: &mut R, alloc: Global, n: u32) -> Result<Vec<u8>> {
+    let mut bytes = vec![in alloc; 0; n as usize]?;
+    input.read_exact(&mut bytes)?;
+    Ok(bytes)
 }
 
-fn segment_part(manifest: &[u8], expected_crc: u32, scratch: &mut [u64], segments: &[u8])
-    requires { length scratch.old ≤ 4096 }
-{
-    fill(scratch);
-    let r = segment::check(manifest, expected_crc, scratch, segments);
-    print_answer(r.refusal, r.head, scratch);
-}
-
-fn parts(manifest: &[u8], expected_crc: u32, scratch: &mut [u64], segments: &[u8])
-    requires { length scratch.old ≤ 4096 }
-{
-    manifest_part(manifest, expected_crc, scratch);
-    segment_part(manifest, expected_crc, scratch, segments);
-}
-
-fn read(s: &mut [u8], n: usize)
-    requires { n ≤ length s.old }
-{
-    io::read_full(0, &mut s[..n]);
-}
-
-fn case(place: u64, expected_crc: u32, room: usize, n: usize, m: usize, s: usize)
-    requires { (room ≤ 4096) × (n ≤ 100) × (m ≤ 65536) × (s ≤ 65536) }
-{
-    let mut name = [0u8; 100];
-    let mut manifest = [0u8; 65536];
-    let mut segments = [0u8; 65536];
-    let mut scratch = [0u64; 4096];
-    read(&mut name, n);
-    read(&mut manifest, m);
-    read(&mut segments, s);
-    number(place);
-    parts(
-        &manifest[..m],
-        expected_crc,
-        &mut scratch[..room],
-        &segments[..s],
-    );
-    io::write_all(1, &name[..n]);
-    io::write_all(1, b"\n");
-}
-
-// Reads and runs a case; whether there was one that fits.
-fn next(place: u64) -> bool {
+// Reads and runs a case.
+fn case<R: Read, W: Write>(input: &mut R, out: &mut W, alloc: Global, place: u32) -> Result<()> {
     let mut head = [0u8; 20];
-    if io::read_full(0, &mut head) < 20 {
-        return false;
-    }
+    input.read_exact(&mut head)?;
     let expected_crc = le::u32_at(&head, 0);
-    let room = index(le::u32_at(&head, 4));
-    let n = index(le::u32_at(&head, 8));
-    let m = index(le::u32_at(&head, 12));
-    let s = index(le::u32_at(&head, 16));
-    if 4096 < room {
-        return false;
-    }
-    if 100 < n {
-        return false;
-    }
-    if 65536 < m {
-        return false;
-    }
-    if 65536 < s {
-        return false;
-    }
-    case(place, expected_crc, room, n, m, s);
-    true
+    let mut scratch = vec![in alloc; 0; le::u32_at(&head, 4) as usize]?;
+    let name = bytes(input, alloc, le::u32_at(&head, 8))?;
+    let manifest = bytes(input, alloc, le::u32_at(&head, 12))?;
+    let segments = bytes(input, alloc, le::u32_at(&head, 16))?;
+    write!(out, "{place} ")?;
+    fill(&mut scratch);
+    let r = manifest::check(&manifest, expected_crc, &mut scratch);
+    print_answer(out, r.refusal, r.head, &scratch)?;
+    fill(&mut scratch);
+    let r = segment::check(&manifest, expected_crc, &mut scratch, &segments);
+    print_answer(out, r.refusal, r.head, &scratch)?;
+    out.write_all(&name)?;
+    writeln!(out)
 }
 
-fn main() {
-    let mut place: u64 = 0;
-    while place < 10000 {
-        if !next(place) {
-            return;
+fn main(rt: HostRuntime) -> Result<()> {
+    let alloc = rt.alloc();
+    let mut input = BufReader::new(alloc, rt.stdin())?;
+    let mut out = BufWriter::new(alloc, rt.stdout())?;
+    for place in 0..10000 {
+        if input.fill_buf()?.is_empty() {
+            break;
         }
-        place += 1;
+        case(&mut input, &mut out, alloc, place)?;
     }
+    out.flush()
 }

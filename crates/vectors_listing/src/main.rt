@@ -7,9 +7,12 @@ use std::io::{Result, Write};
 
 fn case(rt: &HostRuntime, folder: &str) -> Result<()> {
     let mut out = listing_text::buffer();
-    let n = files::list(rt, folder.as_bytes(), &mut out);
+    let listed = files::list(rt, folder.as_bytes(), &mut out);
     println!(rt; "{folder}")?;
-    rt.stdout().write_all(&out[..n])
+    match listed {
+        Ok(n) => rt.stdout().write_all(&out[..n]),
+        Err(files::Failed) => Ok(()),
+    }
 }
 
 fn main(rt: HostRuntime) -> Result<()> {

@@ -2,121 +2,105 @@
 // (a part of 32 codes and a rest): the query, the record and three more. make/main.rs says what is printed of each.
 #![tactic(auto)]
 
-ghost use Rattle.std.specs.Prelude.{◌≡◌, true, ◌≤◌, nat_abs};
+ghost use Rattle.std.specs.Prelude.{◌≡◌, true, ◌≤◌, length, nat_abs};
 ghost use Rattle.config.specs.Vector.{finites, floats_at};
 ghost use Rattle.codes.specs.Codes.{Small};
-ghost use Rattle.quantization.specs.Encoder.{midpoints};
 
-use config::{Metric, MetricAnswer};
-use quantization::Row;
-use row::RowAnswer;
+use config::Metric;
+use quantization::{Encoder, Row};
+use row::{Query, RowAnswer};
+use std::fmt;
+use std::io::{BufRead, BufReader, BufWriter, Read, Result, Write};
+use std::num::f32_from_bits_with_nan;
 
-fn space() {
-    io::write_all(1, b" ");
-}
+// The bits of a distance, or `nan`.
+#[derive(Drop)]
+struct Bits(f64);
 
-fn end() {
-    io::write_all(1, b"\n");
-}
-
-fn bits(x: f64) {
-    if x != x {
-        io::write_all(1, b"nan");
-    } else {
-        io::print_hex(1, f64::to_bits(x), 16);
+impl fmt::Display for Bits {
+    fn fmt<W: fmt::Write>(&self, f: &mut fmt::Formatter<W>) -> fmt::Result {
+        if self.0.is_nan() {
+            f.write_str("nan")
+        } else {
+            write!(f, "{:016x}", self.0.to_bits())
+        }
     }
-}
-
-fn wide(x: u8) -> u64 {
-    x as u64
-}
-
-fn count(x: u32) -> u64 {
-    x as u64
 }
 
 // The f32 of a pattern, or 0 where it is no number.
 fn number(b: u32) -> f32 {
-    if float::is_finite_f32(b) {
-        return f32::from_bits(b);
-    }
-    0.0
+    let x = f32_from_bits_with_nan(b);
+    if x.is_finite() { x } else { 0.0 }
 }
 
-fn load(s: &[u8; 172], out: &mut [f32; 43]) {
-    let mut i = 0;
-    while i < 43 {
-        let x = number(le::u32_at(s, 4 * i));
-        out[i] = x;
-        i += 1;
+fn vector(s: &[u8]) -> [f32; 43]
+    requires { 172 ≤ length s.now }
+{
+    let mut v = [0.0; 43];
+    for (i, x) in v.iter_mut().enumerate() {
+        *x = number(le::u32_at(s, 4 * i));
     }
+    v
 }
 
 // The scale, the norm and the codes of a row as it stands in a cache.
-fn print_row(s: &[u8; 59]) {
-    io::print_hex(1, le::u64_at(s, 0), 16);
-    space();
-    io::print_decimal(1, le::u64_at(s, 8));
-    space();
-    let mut i = 16;
-    while i < 59 {
-        io::print_hex(1, wide(s[i]), 2);
-        i += 1;
+fn print_row<W: Write>(w: &mut W, s: &[u8; 59]) -> Result<()> {
+    write!(w, "{:016x} {} ", le::u64_at(s, 0), le::u64_at(s, 8))?;
+    for b in &s[16..] {
+        write!(w, "{b:02x}")?;
     }
-    end();
+    writeln!(w)
 }
 
-// Encodes a record, and prints its row.
-fn encoder_line(t: &[f64; 127], s: &[u8; 172], out: &mut [u8; 59])
-    requires { t.now ≡ midpoints }
-{
+// Encodes a record; whether it is one.
+fn encoder_line(encoder: &Encoder<'_>, s: &[u8; 172], out: &mut [u8; 59]) -> bool {
     if config::validate_record(Metric::SquaredL2, s, 0, 43) {
-        quantization::encode_row(t, quantization::BASE_LEVELS, s, 0, out);
-        print_row(out);
+        encoder.encode_row(s, 0, out);
+        return true;
     }
+    false
 }
 
 // The row's answer to a query's codes.
 fn answer(metric: Metric, row: &[u8; 59], codes: &[i16; 43], query: Row) -> RowAnswer
     requires { (nat_abs query.norm ≤ 9007199254740992) × Small codes.now }
 {
-    let root = row::norm_root(query.norm);
-    let sums = codes::row_sums(quantization::BASE_LEVELS as u8, row, 16, codes);
+    let sums = codes::row_sums(quantization::BASE_LEVELS as u8, &row[16..], codes);
     let r = Row {
-        scale: float::f64_value(le::u64_at(row, 0)),
+        scale: float::Pattern::value(le::u64_at(row, 0)),
         norm: le::i64_at(row, 8),
     };
-    row::summed_row(quantization::BASE_LEVELS, metric, r, sums, query, root, 0)
+    row::summed_row(
+        quantization::BASE_LEVELS,
+        metric,
+        r,
+        sums,
+        Query::new(query),
+        0,
+    )
 }
 
-fn print_answer(r: RowAnswer) {
+fn print_answer<W: Write>(w: &mut W, r: RowAnswer) -> Result<()> {
     match r {
-        RowAnswer::Distance(x) => {
-            bits(x);
-        }
-        RowAnswer::PassedOver => {
-            io::write_all(1, b"passed over");
-        }
-        RowAnswer::Refused(e) => {
-            io::print_decimal(1, count(e.number));
-        }
+        RowAnswer::Distance(x) => writeln!(w, "{}", Bits(x)),
+        RowAnswer::PassedOver => writeln!(w, "passed over"),
+        RowAnswer::Refused(e) => writeln!(w, "{}", e.number),
     }
-    end();
 }
 
+// The answer to a query, where it is one.
 fn approximate_line(
     metric: Metric,
-    t: &[f64; 127],
+    encoder: &Encoder<'_>,
     q: &[f32; 43],
     row: &[u8; 59],
     codes: &mut [i16; 43],
-)
-    requires { t.now ≡ midpoints }
-{
+) -> Option<RowAnswer> {
     if config::validate_vector(metric, 43, q) {
-        let query = quantization::encode_query(t, quantization::BASE_LEVELS, q, codes);
-        print_answer(answer(metric, row, codes, query));
+        let query = encoder.encode_query(q, codes);
+        return Some(answer(metric, row, codes, query));
     }
+    None
 }
 
 fn measure(metric: Metric, q: &[f64; 43], s: &[u8; 172]) -> f64
@@ -126,126 +110,95 @@ fn measure(metric: Metric, q: &[f64; 43], s: &[u8; 172]) -> f64
     math::original_distance(metric, q, inverse, s, 0)
 }
 
-// The original distance of a record to a query that is widened first.
-fn original_line(metric: Metric, q: &[f32; 43], wide: &mut [f64; 43], s: &[u8; 172]) {
-    if config::validate_record(metric, s, 0, 43) {
-        math::widen(q, wide);
-        bits(measure(metric, wide, s));
-        end();
-    }
-}
-
-fn four_line(
+// The original distance of a record, where it is one, to a query that is widened first.
+fn original_line(
     metric: Metric,
     q: &[f32; 43],
-    a: &[f32; 43],
-    b: &[f32; 43],
-    c: &[f32; 43],
-    d: &[f32; 43],
-) {
-    let r = math::distance_four(metric, q, a, b, c, d);
-    let x = r.distances;
-    bits(x[0]);
-    space();
-    bits(x[1]);
-    space();
-    bits(x[2]);
-    space();
-    bits(x[3]);
-    end();
+    wide: &mut [f64; 43],
+    s: &[u8; 172],
+) -> Option<f64> {
+    if config::validate_record(metric, s, 0, 43) {
+        math::widen(q, wide);
+        return Some(measure(metric, wide, s));
+    }
+    None
 }
 
-fn distances(
+fn distances<W: Write>(
+    w: &mut W,
     metric: Metric,
-    t: &[f64; 127],
+    encoder: &Encoder<'_>,
     query: &[u8; 172],
     record: &[u8; 172],
     row: &[u8; 59],
     rest: &[u8; 516],
-)
-    requires { t.now ≡ midpoints }
-{
+) -> Result<()> {
     let mut codes = [0i16; 43];
     let mut wide = [0f64; 43];
-    let mut q = [0f32; 43];
-    let mut a = [0f32; 43];
-    let mut b = [0f32; 43];
-    let mut c = [0f32; 43];
-    let mut d = [0f32; 43];
-    load(query, &mut q);
-    load(record, &mut a);
-    load_part(rest, 0, &mut b);
-    load_part(rest, 172, &mut c);
-    load_part(rest, 344, &mut d);
-    approximate_line(metric, t, &q, row, &mut codes);
-    original_line(metric, &q, &mut wide, record);
-    four_line(metric, &q, &a, &b, &c, &d);
-}
-
-fn load_part(s: &[u8; 516], at: usize, out: &mut [f32; 43])
-    requires { at ≤ 344 }
-{
-    let mut i = 0;
-    while i < 43 {
-        let x = number(le::u32_at(s, at + 4 * i));
-        out[i] = x;
-        i += 1;
+    let q = vector(query);
+    let a = vector(record);
+    let b = vector(&rest[..172]);
+    let c = vector(&rest[172..344]);
+    let d = vector(&rest[344..]);
+    if let Some(r) = approximate_line(metric, encoder, &q, row, &mut codes) {
+        print_answer(w, r)?;
     }
+    if let Some(x) = original_line(metric, &q, &mut wide, record) {
+        writeln!(w, "{}", Bits(x))?;
+    }
+    let r = math::distance_four(metric, &q, &a, &b, &c, &d);
+    let [a, b, c, d] = r.distances;
+    writeln!(w, "{} {} {} {}", Bits(a), Bits(b), Bits(c), Bits(d))
 }
 
-fn case(metric: Metric, t: &[f64; 127], query: &[u8; 172], record: &[u8; 172], rest: &[u8; 516])
-    requires { t.now ≡ midpoints }
-{
+fn case<W: Write>(
+    w: &mut W,
+    metric: Metric,
+    encoder: &Encoder<'_>,
+    query: &[u8; 172],
+    record: &[u8; 172],
+    rest: &[u8; 516],
+) -> Result<()> {
     let mut row = [0u8; 59];
     let mut other = [0u8; 59];
-    encoder_line(t, record, &mut row);
-    encoder_line(t, query, &mut other);
-    distances(metric, t, query, record, &row, rest);
-}
-
-fn one(b: u8, t: &[f64; 127], query: &[u8; 172], record: &[u8; 172], rest: &[u8; 516])
-    requires { t.now ≡ midpoints }
-{
-    let m = Metric::from_byte(b);
-    match m {
-        MetricAnswer::Known(metric) => {
-            case(metric, t, query, record, rest);
-        }
-        MetricAnswer::Refused(_) => {}
+    if encoder_line(encoder, record, &mut row) {
+        print_row(w, &row)?;
     }
+    if encoder_line(encoder, query, &mut other) {
+        print_row(w, &other)?;
+    }
+    distances(w, metric, encoder, query, record, &row, rest)
 }
 
-// Reads and runs a case; whether there was one.
-fn next(t: &[f64; 127]) -> bool
-    requires { t.now ≡ midpoints }
-{
+// Reads and runs a case.
+fn next<R: Read, W: Write>(r: &mut R, w: &mut W, encoder: &Encoder<'_>) -> Result<()> {
     let mut head = [0u8; 1];
     let mut query = [0u8; 172];
     let mut record = [0u8; 172];
     let mut rest = [0u8; 516];
-    io::read_full(0, &mut head);
-    io::read_full(0, &mut query);
-    io::read_full(0, &mut record);
-    if io::read_full(0, &mut rest) < 516 {
-        return false;
+    r.read_exact(&mut head)?;
+    r.read_exact(&mut query)?;
+    r.read_exact(&mut record)?;
+    r.read_exact(&mut rest)?;
+    match Metric::try_from(head[0]) {
+        Ok(metric) => case(w, metric, encoder, &query, &record, &rest),
+        Err(_) => Ok(()),
     }
-    one(head[0], t, &query, &record, &rest);
-    true
 }
 
-fn run(t: &[f64; 127])
-    requires { t.now ≡ midpoints }
-{
-    let mut left: u32 = 10000;
-    while 0 < left {
-        left -= 1;
-        if !next(t) {
-            left = 0;
+fn run<R: BufRead, W: Write>(r: &mut R, w: &mut W, encoder: &Encoder<'_>) -> Result<()> {
+    for _ in 0..10000 {
+        if r.fill_buf()?.is_empty() {
+            break;
         }
+        next(r, w, encoder)?;
     }
+    w.flush()
 }
 
-fn main() {
+fn main(rt: HostRuntime) -> Result<()> {
     let t = quantization::midpoints_table();
-    run(&t);
+    let mut r = BufReader::new(rt.alloc(), rt.stdin())?;
+    let mut w = BufWriter::new(rt.alloc(), rt.stdout())?;
+    run(&mut r, &mut w, &Encoder::new(&t, quantization::BASE_LEVELS))
 }

@@ -1,4 +1,3 @@
-use borrow.Author.Rules.{rules}
 use native.Mathlib.Omega.{arith}
 use mathlib.Core.Path.{◌≡◌, sym, ap, ◌∙◌}
 use Prim.Native.Nat.{ℕ, ◌+◌, ◌*◌, ◌<◌}
@@ -14,7 +13,7 @@ use Rattle.api_state.proofs.put_words.Goals as goal
 
 pub loop-i-init : goal.loop-i-init
 unfolding words
-loop-i-init c = (search rules, search rules, sym (paste-nil c.args.out.now c.args.at))
+loop-i-init c = sym (paste-nil c.args.out.now c.args.at)
 
 pub loop-i-preserved : goal.loop-i-preserved
 loop-i-preserved c =
@@ -23,11 +22,11 @@ loop-i-preserved c =
     let at = c.args.at in
     let v = c.args.v.now in
     let h : L.i < length v = omega arith in
-    (search rules, c.put_u64.auto.s ∙ L.invariant.1, c.put_u64.ensures ∙ ap (λ (l : List ℕ). paste l (at + 8 * L.i) (bytes 8 (get_or v L.i 0))) L.invariant.2 ∙ rw (add-one L.i) (words_turn d v at L.i h c.requires))
+    c.put_u64.ensures ∙ ap (λ (l : List ℕ). paste l (at + 8 * L.i) (bytes 8 (get_or v L.i 0))) L.invariant ∙ rw (add-one L.i) (words_turn d v at L.i h c.requires)
 
 pub returns : goal.returns
 returns c =
     let L = c.loop-i in
     let v = c.args.v.now in
     let e : L.i ≡ length v = omega arith in
-    (L.invariant.2 ∙ rw (e, take-length v), all_fit v (λ k. omega (arith, c.shared_slice_known-1.given k)))
+    (L.invariant ∙ rw (e, take-length v), all_fit v (λ k. (c.type_inv.v k).fits))

@@ -1,16 +1,17 @@
+use Prim.Native.Nat.{◌≤◌}
+use lib.ListN.{length}
 use native.Mathlib.Omega.{arith}
 use borrow.Author.Tests.{le-leb, lt-leb}
-use lib.ListN.{length-take}
 use Rattle.crc32.specs.Crc.{ends_in_crc}
 use Rattle.crc32.proofs.ends_in_crc.Goals as goal
 
-pub returns-then-s-lt4 : goal.returns-then-s-lt4
+pub returns-in_default : goal.returns-in_default
 unfolding ends_in_crc
-returns-then-s-lt4 c = rw (lt-leb 4 _ c.if-s-lt4.true)
+returns-in_default c = rw (lt-leb 4 _ c.in_default.ensures.cases)
 
 pub returns : goal.returns
 unfolding ends_in_crc
-returns c = rw (le-leb 4 _ c.if-s-lt4.false, c.crc32.ensures, c.u32_at.ensures)
-
-pub slice_bounds-crc32-end : goal.slice_bounds-crc32-end
-slice_bounds-crc32-end c = simp length-take (omega arith)
+returns c =
+    let e = c.in-Some.ensures.cases in
+    let h : 4 ≤ length c.args.s.now = omega (arith, e) in
+    rw (le-leb 4 (length c.args.s.now) h, c.crc32.ensures, c.u32_at.ensures, e.0, e.1)

@@ -25,7 +25,7 @@ lies c =
     let L = c.loop-row in
     let k : L.row < rows_of c.args.m.now = rw c.requires.0.rows at c.loop-row-test.true in
     let h = part-ends L.row c.args.size (rows_of c.args.m.now) k in
-    (k, omega (arith, h, c.requires.7, L.invariant.1), L.invariant.2)
+    (k, omega (arith, h, c.requires.5, L.invariant.1), L.invariant.2)
 
 -- the row's part lies in the cache
 lies-2 : (c : goal.After-slice_known-in-loop-row-1)
@@ -35,7 +35,7 @@ lies-2 c =
     let L = c.loop-row in
     let k : L.row < rows_of c.args.m.now = rw c.requires.0.rows at c.loop-row-test.true in
     let h = part-ends L.row c.args.size (rows_of c.args.m.now) k in
-    (k, omega (arith, h, c.requires.7, L.invariant.1), L.invariant.2)
+    (k, omega (arith, h, c.requires.5, L.invariant.1), L.invariant.2)
 
 -- the row's part lies in the cache
 lies-3 : (c : goal.In-loop-row)
@@ -45,23 +45,23 @@ lies-3 c =
     let L = c.loop-row in
     let k : L.row < rows_of c.args.m.now = rw c.requires.0.rows at c.loop-row-test.true in
     let h = part-ends L.row c.args.size (rows_of c.args.m.now) k in
-    (k, omega (arith, h, c.requires.7, L.invariant.1), L.invariant.2)
+    (k, omega (arith, h, c.requires.5, L.invariant.1), L.invariant.2)
 
 pub put_row-requires : goal.put_row-requires
 put_row-requires c =
     let L = c.loop-row in
     let h = lies c in
     let m = c.args.m.now in
-    (c.requires.0, lengths_of m c.requires.1, c.requires.2, c.requires.3, c.requires.4, c.loop-row-test.true, entry_keeps m L.row c.requires.1 h.0, each_passes (record_ok c.args.m.now c.args.s.now) (rows_of c.args.m.now) L.row c.requires.5 h.0, simp (length-take, length-drop) (omega (arith, h.1, h.2, c.requires.6)))
+    (c.requires.0, lengths_of m c.requires.1, c.requires.2, c.loop-row-test.true, entry_keeps m L.row c.requires.1 h.0, each_passes (record_ok c.args.m.now c.args.s.now) (rows_of c.args.m.now) L.row c.requires.3 h.0, simp (length-take, length-drop) (omega (arith, h.1, h.2, c.requires.4)))
 
 pub loop-row-preserved : goal.loop-row-preserved
 loop-row-preserved c =
     let L = c.loop-row in
     let m = c.args.m.now in
     let s = c.args.s.now in
-    let l = c.args.levels in
+    let l = c.args.encoder.now.levels in
     let own : ℕ → List ℕ = λ r. row_bytes (row_of l (midpoints_of l) m s r) in
-    let o : (r : ℕ) → length (own r) ≡ c.args.size = λ r. length_own l (midpoints_of l) m s r ∙ sym c.requires.6 in
+    let o : (r : ℕ) → length (own r) ≡ c.args.size = λ r. length_own l (midpoints_of l) m s r ∙ sym c.requires.4 in
     let d = c.args.cache.now in
     let h = lies-2 c in
     let k : (L.row + 1) * c.args.size ≡ L.row * c.args.size + c.args.size = rw (add-one L.row) (suc-mul L.row c.args.size) in
@@ -70,7 +70,7 @@ loop-row-preserved c =
 
 pub loop-row-init : goal.loop-row-init
 loop-row-init c =
-    (search rules, omega arith, refl, store_none (λ r. row_bytes (row_of c.args.levels (midpoints_of c.args.levels) c.args.m.now c.args.s.now r)) c.args.cache.now c.args.at)
+    (search rules, omega arith, refl, store_none (λ r. row_bytes (row_of c.args.encoder.now.levels (midpoints_of c.args.encoder.now.levels) c.args.m.now c.args.s.now r)) c.args.cache.now c.args.at)
 
 pub overflow_add-end : goal.overflow_add-end
 overflow_add-end c = let h = (lies-3 c).1 in omega (arith, h)

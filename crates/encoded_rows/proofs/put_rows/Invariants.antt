@@ -8,7 +8,7 @@ use Rattle.encoded_rows.proofs.put_rows.Given as goal
 
 abbrev pub invariant-loop-row : goal.invariant-loop-row
 invariant-loop-row l =
-    (l.row ≤ l.layout.rows) × (l.from ≡ l.at + l.row * l.size) × (length l.cache ≡ length l.initial.cache) × (l.cache ≡ paste l.initial.cache l.at (rows_bytes l.levels (midpoints_of l.levels) l.m l.s l.row))
+    (l.row ≤ l.layout.rows) × (l.from ≡ l.at + l.row * l.size) × (length l.cache ≡ length l.initial.cache) × (l.cache ≡ paste l.initial.cache l.at (rows_bytes l.encoder.levels (midpoints_of l.encoder.levels) l.m l.s l.row))
 
 abbrev pub decreases-loop-row : goal.decreases-loop-row
 decreases-loop-row l = l.layout.rows - l.row

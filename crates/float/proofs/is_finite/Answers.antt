@@ -1,7 +1,6 @@
-use lib.Ieee.{of_bits, neg, div}
-use Rattle.float.proofs.BitLaws.{finite_between}
+use mathlib.Core.Path.{◌∙◌}
+use Rattle.float.proofs.BitLaws.{same_finite}
 use Rattle.float.proofs.is_finite.Goals as goal
 
 pub returns : goal.returns
-unfolding div of_bits neg
-returns c = finite_between c.args.x
+returns c = c.is_finite.ensures.value ∙ same_finite c.args.x

@@ -20,7 +20,8 @@ module _ {levels : ℕ} (g : Levels levels) (query : List Float) where
 
 pub norm_root-root-requires : goal.norm_root-root-requires
 norm_root-root-requires c =
-    let norm : nat_abs c.encode_query-row.result.norm ≤ 9007199254740992 = rw c.encode_query-row.ensures.2 (norm_low c.requires.levels.0 c.args.query.now c.requires.levels.1) in
+    let w = rw c.new.ensures at c.encode_query-row.ensures in
+    let norm : nat_abs c.encode_query-row.result.norm ≤ 9007199254740992 = rw w.2 (norm_low c.requires.levels.0 c.args.query.now c.requires.levels.1) in
     rw (held c.encode_query-row.result.norm norm) norm
 
 pub returns : goal.returns
@@ -29,12 +30,13 @@ returns c =
     let a = c.args in
     let q = a.query.now in
     let e = c.encode_query-row in
+    let w = rw c.new.ensures at e.ensures in
     let r = encode a.levels (midpoints_of a.levels) q in
-    let codes : take (length q) e.new.out ≡ r.codes = rw e.ensures.0 (take_at r.codes _ (length q) (encoded_length a.levels (midpoints_of a.levels) q)) in
-    let norm : nat_abs e.result.norm ≤ 9007199254740992 = rw e.ensures.2 (norm_low c.requires.levels.0 q c.requires.levels.1) in
+    let codes : take (length q) e.new.out ≡ r.codes = rw w.0 (take_at r.codes _ (length q) (encoded_length a.levels (midpoints_of a.levels) q)) in
+    let norm : nat_abs e.result.norm ≤ 9007199254740992 = rw w.2 (norm_low c.requires.levels.0 q c.requires.levels.1) in
     let wide : take (length q) c.widen.new.out ≡ q = rw c.widen.ensures (take_at q _ (length q) refl) in
     record {
-      view = rw (e.ensures.1, e.ensures.2, codes);
+      view = rw (w.1, w.2, codes);
       root = rw (held e.result.norm norm) at c.norm_root-root.ensures;
       small = rw codes (codes_small c.requires.levels.0 q);
       norm = norm;

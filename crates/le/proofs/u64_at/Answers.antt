@@ -1,6 +1,6 @@
-use native.Mathlib.Omega.{arith}
-use Rattle.le.proofs.LeLaws.{join}
+use mathlib.Core.Path.{◌∙◌}
+use Rattle.le.proofs.LeLaws.{sum_at}
 use Rattle.le.proofs.u64_at.Goals as goal
 
 pub returns : goal.returns
-returns c = omega (arith, join 4 4 c.args.s.now c.args.at (omega (arith, c.requires)))
+returns c = c.from_le_bytes.ensures ∙ rw c.array_at.ensures (sum_at c.args.s.now c.args.at 7 c.requires)

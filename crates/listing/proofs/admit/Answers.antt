@@ -23,7 +23,7 @@ pub returns-then-refusal-ne0 : goal.returns-then-refusal-ne0
 returns-then-refusal-ne0 c =
     let a = c.args in
     let d = c.own_crc-crc in
-    let e = ap (λ (x : Checked). x.refusal) (one a.manifest.now d.result _ c.check-first.result c.numbers-scratch.ensures c.check-first.ensures.0) in
+    let e = ap (λ (x : Checked). x.refusal) (one a.manifest.now d.result _ c.check-first.result c.zeros-scratch.ensures c.check-first.ensures.0) in
     c.refused.ensures ∙ ap (λ (r : Refusal). let o : Opened = record { refusal = r; state = zero_cache_state } in o) e
     ∙ refused-first a.manifest.now a.segments.now a.cache.now a.platform.now a.root.now d.result d.ensures (rw e at c.if-refusal-ne0.true)
 
@@ -31,8 +31,8 @@ pub returns-then-refusal-ne0-2 : goal.returns-then-refusal-ne0-2
 returns-then-refusal-ne0-2 c =
     let a = c.args in
     let d = c.own_crc-crc in
-    let e = ap (λ (x : Checked). x.refusal) (one a.manifest.now d.result _ c.check-first.result c.numbers-scratch.ensures c.check-first.ensures.0) in
-    let f = ap (λ (x : Checked). x.refusal) (two a.manifest.now a.segments.now d.result _ c.check-second.result (c.numbers-scratch.ensures ∙ sym c.check-first.auto.scratch) c.check-second.ensures.0) in
+    let e = ap (λ (x : Checked). x.refusal) (one a.manifest.now d.result _ c.check-first.result c.zeros-scratch.ensures c.check-first.ensures.0) in
+    let f = ap (λ (x : Checked). x.refusal) (two a.manifest.now a.segments.now d.result _ c.check-second.result (c.zeros-scratch.ensures ∙ sym c.check-first.auto.scratch) c.check-second.ensures.0) in
     c.refused-then-refusal-ne0-2.ensures ∙ ap (λ (r : Refusal). let o : Opened = record { refusal = r; state = zero_cache_state } in o) f
     ∙ refused-second a.manifest.now a.segments.now a.cache.now a.platform.now a.root.now d.result d.ensures
     (rw e at c.if-refusal-ne0.false) (λ z. c.if-refusal-ne0-2.true (ap (λ (r : Refusal). r.number) f ∙ z))
@@ -41,9 +41,9 @@ pub returns : goal.returns
 returns c =
     let a = c.args in
     let d = c.own_crc-crc in
-    let e = ap (λ (x : Checked). x.refusal) (one a.manifest.now d.result _ c.check-first.result c.numbers-scratch.ensures c.check-first.ensures.0) in
-    let f = ap (λ (x : Checked). x.refusal) (two a.manifest.now a.segments.now d.result _ c.check-second.result (c.numbers-scratch.ensures ∙ sym c.check-first.auto.scratch) c.check-second.ensures.0) in
-    let n = c.check-second.auto.scratch ∙ c.check-first.auto.scratch ∙ sym c.numbers-scratch.ensures in
+    let e = ap (λ (x : Checked). x.refusal) (one a.manifest.now d.result _ c.check-first.result c.zeros-scratch.ensures c.check-first.ensures.0) in
+    let f = ap (λ (x : Checked). x.refusal) (two a.manifest.now a.segments.now d.result _ c.check-second.result (c.zeros-scratch.ensures ∙ sym c.check-first.auto.scratch) c.check-second.ensures.0) in
+    let n = c.check-second.auto.scratch ∙ c.check-first.auto.scratch ∙ sym c.zeros-scratch.ensures in
     c.«open».ensures.0
     ∙ ap (λ (n : ℕ). opened a.manifest.now d.result n a.cache.now a.platform.now a.root.now c.default.result) n
     ∙ ap (λ (o : Options). opened a.manifest.now d.result most_places a.cache.now a.platform.now a.root.now o) c.default.ensures

@@ -11,7 +11,7 @@ use Rattle.search_spec.specs.Kept.{cached_rows, cached}
 use Rattle.search_spec.specs.Outcome.{Outcome, returned}
 use Rattle.search_spec.specs.declared.Searched.{Searched}
 use Rattle.listing_text.specs.Listing.{refusal_text, listing, lines_of, Numbers, most_places}
-use Rattle.listing_input.specs.Files.{max_file_bytes}
+use Rattle.listing_input.specs.Parts.{max_file_bytes}
 use Rattle.listing.specs.Output.{lent_answers, lent_work, answer_text}
 use Rattle.listing.proofs.Lent.{Sized, Alike, room-is, lent-room, alike}
 use Rattle.listing.proofs.Listed.{refusal_text_lem, few-places, places_numbers, places_text}
@@ -50,16 +50,16 @@ pub returns-then-refusal-ne0-clause-fact : goal.returns-then-refusal-ne0-clause-
 returns-then-refusal-ne0-clause-fact c =
     let a = c.args in
     put_same (refusal-printed a.state a.cache.now a.manifest.now a.segments.now a.query.now a.k a.limit
-    (answers_of c.numbers-ids.result c.distances-distances.result c.numbers-rows.result c.numbers-starts.result c.lengths-lengths.result)
-    (work_of c.numbers-keys.result c.numbers-candidates.result [])
+    (answers_of c.zeros-ids.result c.zeros-distances.result c.zeros-rows.result c.zeros-starts.result c.zeros-lengths.result)
+    (work_of c.zeros-keys.result c.zeros-candidates.result [])
     (record {
-      ids = sym c.numbers-ids.ensures;
-      distances = sym c.distances-distances.ensures;
-      rows = sym c.numbers-rows.ensures;
-      starts = sym c.numbers-starts.ensures;
-      lengths = sym c.lengths-lengths.ensures;
-      keys = sym c.numbers-keys.ensures;
-      candidates = sym c.numbers-candidates.ensures;
+      ids = sym c.zeros-ids.ensures;
+      distances = sym c.zeros-distances.ensures;
+      rows = sym c.zeros-rows.ensures;
+      starts = sym c.zeros-starts.ensures;
+      lengths = sym c.zeros-lengths.ensures;
+      keys = sym c.zeros-keys.ensures;
+      candidates = sym c.zeros-candidates.ensures;
       wanted = refl;
     }) c.cached-r.result c.cached-r.ensures.0 c.if-refusal-ne0.true) c.write_refusal.ensures.put
 
@@ -67,37 +67,37 @@ pub write_listing-requires : goal.write_listing-requires
 write_listing-requires c =
     let a = c.args in
     let most = few a.state a.cache.now a.manifest.now a.segments.now a.query.now a.k a.limit
-    (answers_of c.numbers-ids.result c.distances-distances.result c.numbers-rows.result c.numbers-starts.result c.lengths-lengths.result)
-    (work_of c.numbers-keys.result c.numbers-candidates.result [])
+    (answers_of c.zeros-ids.result c.zeros-distances.result c.zeros-rows.result c.zeros-starts.result c.zeros-lengths.result)
+    (work_of c.zeros-keys.result c.zeros-candidates.result [])
     (record {
-      ids = sym c.numbers-ids.ensures;
-      distances = sym c.distances-distances.ensures;
-      rows = sym c.numbers-rows.ensures;
-      starts = sym c.numbers-starts.ensures;
-      lengths = sym c.lengths-lengths.ensures;
-      keys = sym c.numbers-keys.ensures;
-      candidates = sym c.numbers-candidates.ensures;
+      ids = sym c.zeros-ids.ensures;
+      distances = sym c.zeros-distances.ensures;
+      rows = sym c.zeros-rows.ensures;
+      starts = sym c.zeros-starts.ensures;
+      lengths = sym c.zeros-lengths.ensures;
+      keys = sym c.zeros-keys.ensures;
+      candidates = sym c.zeros-candidates.ensures;
       wanted = refl;
     }) c.cached-r.result c.cached-r.ensures.0 c.if-refusal-ne0.false
     (answers_of c.cached-r.new.ids c.cached-r.new.distances c.cached-r.new.rows c.cached-r.new.starts c.cached-r.new.lengths) c.cached-r.ensures.1 c.requires.0 in
     record {
       count_le_most_places = (most, c.requires.1);
       count_in_bounds = (
-        omega (arith, c.cached-r.auto.ids, c.numbers-ids.ensures),
-        omega (arith, c.cached-r.auto.distances, c.distances-distances.ensures),
-        omega (arith, c.cached-r.auto.rows, c.numbers-rows.ensures),
+        omega (arith, c.cached-r.auto.ids, c.zeros-ids.ensures),
+        omega (arith, c.cached-r.auto.distances, c.zeros-distances.ensures),
+        omega (arith, c.cached-r.auto.rows, c.zeros-rows.ensures),
       );
       numbers = numbers a.state a.cache.now a.manifest.now a.segments.now a.query.now a.k a.limit
-          (answers_of c.numbers-ids.result c.distances-distances.result c.numbers-rows.result c.numbers-starts.result c.lengths-lengths.result)
-          (work_of c.numbers-keys.result c.numbers-candidates.result [])
+          (answers_of c.zeros-ids.result c.zeros-distances.result c.zeros-rows.result c.zeros-starts.result c.zeros-lengths.result)
+          (work_of c.zeros-keys.result c.zeros-candidates.result [])
           (record {
-            ids = sym c.numbers-ids.ensures;
-            distances = sym c.distances-distances.ensures;
-            rows = sym c.numbers-rows.ensures;
-            starts = sym c.numbers-starts.ensures;
-            lengths = sym c.lengths-lengths.ensures;
-            keys = sym c.numbers-keys.ensures;
-            candidates = sym c.numbers-candidates.ensures;
+            ids = sym c.zeros-ids.ensures;
+            distances = sym c.zeros-distances.ensures;
+            rows = sym c.zeros-rows.ensures;
+            starts = sym c.zeros-starts.ensures;
+            lengths = sym c.zeros-lengths.ensures;
+            keys = sym c.zeros-keys.ensures;
+            candidates = sym c.zeros-candidates.ensures;
             wanted = refl;
           }) c.cached-r.result c.cached-r.ensures.0 c.if-refusal-ne0.false
           (answers_of c.cached-r.new.ids c.cached-r.new.distances c.cached-r.new.rows c.cached-r.new.starts c.cached-r.new.lengths) c.cached-r.ensures.1;
@@ -107,16 +107,16 @@ pub returns-clause-fact : goal.returns-clause-fact
 returns-clause-fact c =
     let a = c.args in
     put_same (list-printed a.state a.cache.now a.manifest.now a.segments.now a.query.now a.k a.limit
-    (answers_of c.numbers-ids.result c.distances-distances.result c.numbers-rows.result c.numbers-starts.result c.lengths-lengths.result)
-    (work_of c.numbers-keys.result c.numbers-candidates.result [])
+    (answers_of c.zeros-ids.result c.zeros-distances.result c.zeros-rows.result c.zeros-starts.result c.zeros-lengths.result)
+    (work_of c.zeros-keys.result c.zeros-candidates.result [])
     (record {
-      ids = sym c.numbers-ids.ensures;
-      distances = sym c.distances-distances.ensures;
-      rows = sym c.numbers-rows.ensures;
-      starts = sym c.numbers-starts.ensures;
-      lengths = sym c.lengths-lengths.ensures;
-      keys = sym c.numbers-keys.ensures;
-      candidates = sym c.numbers-candidates.ensures;
+      ids = sym c.zeros-ids.ensures;
+      distances = sym c.zeros-distances.ensures;
+      rows = sym c.zeros-rows.ensures;
+      starts = sym c.zeros-starts.ensures;
+      lengths = sym c.zeros-lengths.ensures;
+      keys = sym c.zeros-keys.ensures;
+      candidates = sym c.zeros-candidates.ensures;
       wanted = refl;
     }) c.cached-r.result c.cached-r.ensures.0 c.if-refusal-ne0.false
     (answers_of c.cached-r.new.ids c.cached-r.new.distances c.cached-r.new.rows c.cached-r.new.starts c.cached-r.new.lengths) c.cached-r.ensures.1) c.write_listing.ensures.put

@@ -1,11 +1,11 @@
 use mathlib.Core.Path.{◌≡◌, refl, sym, ◌∙◌}
-use lib.Ieee.{nan, binary32, of_bits, div}
+use lib.Ieee.{nan, binary32, of_bits}
 use Rattle.float.proofs.BitLaws.{above_nan, below-number}
 use Rattle.listing_input.proofs.value.Goals as goal
 
--- 0.0 / 0.0
-quiet : div binary32 (of_bits binary32 0) (of_bits binary32 0) ≡ nan
-unfolding div of_bits
+-- `f32::NAN`
+quiet : of_bits binary32 2143289344 ≡ nan
+unfolding of_bits
 quiet = refl
 
 pub returns-then-bits-gt2139095040 : goal.returns-then-bits-gt2139095040

@@ -1,46 +1,46 @@
 use native.Mathlib.Omega.{arith}
 use lib.ListN.{length-append}
-use Rattle.text.proofs.Puts.{put_then}
+use Rattle.text.proofs.Puts.{wrote_then}
 use Rattle.listing_text.specs.Listing.{report_line}
+use Rattle.listing_text.proofs.Lines.{is_bit}
 use Rattle.listing_text.proofs.put_report.Goals as goal
 
-pub put_field-a-requires : goal.put_field-a-requires
+pub put_field-requires : goal.put_field-requires
 unfolding report_line
-put_field-a-requires c = omega (arith, simp length-append at c.requires)
+put_field-requires c = omega (arith, simp length-append at c.requires)
 
-pub put_field-b-requires : goal.put_field-b-requires
+pub put_field-requires-2 : goal.put_field-requires-2
 unfolding report_line
-put_field-b-requires c = omega (arith, simp length-append at c.requires)
+put_field-requires-2 c = omega (arith, simp length-append at c.requires)
 
-pub put_field-c-requires : goal.put_field-c-requires
+pub put_field-requires-3 : goal.put_field-requires-3
 unfolding report_line
-put_field-c-requires c = omega (arith, simp length-append at c.requires)
+put_field-requires-3 c = omega (arith, simp length-append at c.requires)
 
-pub put_field-d-requires : goal.put_field-d-requires
+pub put_field-requires-4 : goal.put_field-requires-4
 unfolding report_line
-put_field-d-requires c = omega (arith, simp length-append at c.requires)
+put_field-requires-4 c = omega (arith, simp length-append at c.requires)
 
-pub put_field-e-requires : goal.put_field-e-requires
+pub put_field-requires-5 : goal.put_field-requires-5
 unfolding report_line
-put_field-e-requires c = rw c.bit.ensures (omega (arith, simp length-append at c.requires))
+put_field-requires-5 c = rw (c.from.ensures, is_bit c.args.report.complete) (omega (arith, simp length-append at c.requires))
 
-pub put_field-f-requires : goal.put_field-f-requires
+pub put_field-requires-6 : goal.put_field-requires-6
 unfolding report_line
-put_field-f-requires c =
-    let e = rw c.bit.ensures at c.put_field-e.ensures in
-    rw c.bit-2.ensures (omega (arith, simp length-append at c.requires))
+put_field-requires-6 c =
+    let e = rw (c.from.ensures, is_bit c.args.report.complete) at c.put_field-5.ensures.wrote in
+    rw (c.from-2.ensures, is_bit c.args.report.approximate) (omega (arith, simp length-append at c.requires, e.put.ends))
 
 pub put_bytes-requires : goal.put_bytes-requires
 unfolding report_line
 put_bytes-requires c =
-    let e = rw c.bit.ensures at c.put_field-e.ensures in
-    let f = rw c.bit-2.ensures at c.put_field-f.ensures in
-    omega (arith, simp length-append at c.requires)
+    let e = rw (c.from.ensures, is_bit c.args.report.complete) at c.put_field-5.ensures.wrote in
+    let f = rw (c.from-2.ensures, is_bit c.args.report.approximate) at c.put_field-6.ensures.wrote in
+    omega (arith, simp length-append at c.requires, e.put.ends, f.put.ends)
 
-pub returns : goal.returns
+pub returns-clause-wrote : goal.returns-clause-wrote
 unfolding report_line
-returns c =
-    let h = simp length-append at c.requires in
-    let e = rw c.bit.ensures at c.put_field-e.ensures in
-    let f = rw c.bit-2.ensures at c.put_field-f.ensures in
-    put_then (put_then (put_then (put_then (put_then (put_then c.put_field-a.ensures c.put_field-b.ensures (omega (arith, h))) c.put_field-c.ensures (omega (arith, h))) c.put_field-d.ensures (omega (arith, h))) e (omega (arith, h))) f (omega (arith, h))) c.put_bytes.ensures (omega (arith, h))
+returns-clause-wrote c =
+    let e = rw (c.from.ensures, is_bit c.args.report.complete) at c.put_field-5.ensures.wrote in
+    let f = rw (c.from-2.ensures, is_bit c.args.report.approximate) at c.put_field-6.ensures.wrote in
+    wrote_then (wrote_then (wrote_then (wrote_then (wrote_then (wrote_then c.put_field.ensures.wrote c.put_field-2.ensures.wrote) c.put_field-3.ensures.wrote) c.put_field-4.ensures.wrote) e) f) c.put_bytes.ensures.wrote

@@ -1,14 +1,14 @@
-use Rattle.std.proofs.Common.{refl, rules}
+use Rattle.std.proofs.Common.{refl}
 use lib.Ieee.{neg, of_bits}
 use Rattle.math.proofs.Folds.{kept-start, kept_turn, kept_done}
 use Rattle.math.proofs.inverse_norm.Goals as goal
 
-pub loop-i-init : goal.loop-i-init
+pub loop-x-init : goal.loop-x-init
 unfolding neg of_bits
-loop-i-init c = (search rules, kept-start)
+loop-x-init c = kept-start
 
-pub loop-i-preserved : goal.loop-i-preserved
-loop-i-preserved c = let L = c.loop-i in let h = c.loop-i-test.true in (search rules, kept_turn h h refl refl L.invariant.1)
+pub loop-x-preserved : goal.loop-x-preserved
+loop-x-preserved c = let h = c.loop-x-test.true in kept_turn h h refl refl c.loop-x.invariant
 
 pub returns : goal.returns
-returns c = rw (← kept_done c.loop-i-test.false c.loop-i.invariant.1) c.inverse_root.ensures
+returns c = rw (← kept_done c.loop-x-test.false c.loop-x.invariant) c.inverse_root.ensures

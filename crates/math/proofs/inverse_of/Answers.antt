@@ -6,6 +6,6 @@ pub returns-then-root : goal.returns-then-root
 unfolding inverse of_bits
 returns-then-root c = rw c.if-root.true
 
-pub returns : goal.returns
+pub returns-else-root : goal.returns-else-root
 unfolding inverse of_bits
-returns c = rw c.if-root.false
+returns-else-root c = rw c.if-root.false

@@ -1,5 +1,5 @@
 use Rattle.config.proofs.Coordinates.{in_floats, past_floats}
-use Rattle.std.proofs.Common.{length, refl, ◌∙◌, rules}
+use Rattle.std.proofs.Common.{length, refl, ◌∙◌}
 use lib.Ieee.{neg, of_bits}
 use Rattle.config.specs.Vector.{floats_at}
 use Rattle.math.proofs.Folds.{kept-start, kept_turn, kept_done, is-original}
@@ -7,7 +7,10 @@ use Rattle.math.proofs.original_distance.Goals as goal
 
 pub loop-i-init : goal.loop-i-init
 unfolding neg of_bits
-loop-i-init c = (search rules, kept-start, λ h. kept-start)
+loop-i-init c = (kept-start, λ h. kept-start)
+
+pub at-y-requires-clause-in_bounds : goal.at-y-requires-clause-in_bounds
+at-y-requires-clause-in_bounds c = let a = c.args in in_floats (length a.q.now) a.s.now a.at c.loop-i-test.true
 
 pub loop-i-preserved : goal.loop-i-preserved
 loop-i-preserved c =
@@ -15,8 +18,8 @@ loop-i-preserved c =
     let h = c.loop-i-test.true in
     let a = c.args in
     let l = in_floats (length a.q.now) a.s.now a.at h in
-    let e = c.coordinate_at-y.ensures in
-    (search rules, rw c.step-sum.ensures (kept_turn h l refl e L.invariant.1), λ k. rw (c.norm_step-norm.ensures, k) (kept_turn l l e e (L.invariant.2 k)))
+    let e = c.at-y.ensures in
+    (rw c.step-sum.ensures (kept_turn h l refl e L.invariant.0), λ k. rw (c.norm_step-norm.ensures, k) (kept_turn l l e e (L.invariant.1 k)))
 
 pub returns : goal.returns
 returns c =
@@ -24,5 +27,5 @@ returns c =
     let h = c.loop-i-test.false in
     let n = length c.args.q.now in
     c.finish.ensures
-    ∙ is-original c.args.metric c.args.q.now (floats_at n c.args.s.now c.args.at) (kept_done h L.invariant.1) c.requires.q_inverse_value
-    (λ k. kept_done (past_floats n c.args.s.now c.args.at h) (L.invariant.2 k))
+    ∙ is-original c.args.metric c.args.q.now (floats_at n c.args.s.now c.args.at) (kept_done h L.invariant.0) c.requires.q_inverse_value
+    (λ k. kept_done (past_floats n c.args.s.now c.args.at h) (L.invariant.1 k))

@@ -10,7 +10,7 @@ width c = c.row_length-row.ensures ∙ rw c.requires.0.dimensions
 pub put_rows-requires : goal.put_rows-requires
 put_rows-requires c =
     let z = width c in
-    (c.requires.0, c.requires.1, c.requires.2, c.midpoints_table-t.ensures, base, c.requires.3, z, rw z c.requires.4)
+    (c.requires.0, c.requires.1, c.requires.2, c.requires.3, z, rw z c.requires.4)
 
 pub row_length-row-requires : goal.row_length-row-requires
 row_length-row-requires c = let l = c.requires.0 in rw l.dimensions l.high
@@ -19,4 +19,4 @@ pub shape_of-cache : goal.shape_of-cache
 shape_of-cache c = c.put_rows.auto.cache
 
 pub returns : goal.returns
-returns c = c.put_rows.ensures
+returns c = rw c.new-encoder.ensures at c.put_rows.ensures

@@ -6,6 +6,6 @@ pub returns-then-x-top : goal.returns-then-x-top
 unfolding of_bits
 returns-then-x-top c = rw c.if-x-top.true refl
 
-pub returns : goal.returns
+pub returns-else-x-top : goal.returns-else-x-top
 unfolding of_bits
-returns c = rw c.if-x-top.false refl
+returns-else-x-top c = rw c.if-x-top.false refl

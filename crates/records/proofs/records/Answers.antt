@@ -3,7 +3,7 @@ use Rattle.records.proofs.Lists.{upto-none, upto_next, counts, ends}
 use Rattle.records.proofs.records.Goals as goal
 
 pub loop-i-init : goal.loop-i-init
-loop-i-init c = (omega arith, sym (upto-none c.args.ids.now c.args.distances.now c.args.rows.now c.args.out.now))
+loop-i-init c = sym (upto-none c.args.ids.now c.args.distances.now c.args.rows.now c.args.out.now)
 
 pub loop-i-preserved : goal.loop-i-preserved
 loop-i-preserved c =
@@ -11,14 +11,12 @@ loop-i-preserved c =
     let i = c.loop-i.i in
     let plan = c.planned-plan.result in
     let room : plan.count ≤ length a.out.now = rw c.planned-plan.ensures (counts a.count (length a.ids.now) (length a.distances.now) (length a.rows.now) (length a.out.now)).3 in
-    let here : i < length a.out.now = omega (arith, room, c.loop-i-test.true) in (
-      omega (arith, c.loop-i-test.true),
-      rw (c.loop-i.invariant.1, c.record_at.ensures) (upto_next a.ids.now a.distances.now a.rows.now a.out.now i here),
-    )
+    let here : i < length a.out.now = omega (arith, room, c.loop-i-test.true) in
+    rw (c.loop-i.invariant, c.record_at.ensures) (upto_next a.ids.now a.distances.now a.rows.now a.out.now i here)
 
 pub returns : goal.returns
 returns c =
     let a = c.args in
     let e = ends a.ids.now a.distances.now a.rows.now a.out.now a.count c.planned-plan.result c.planned-plan.ensures in
-    let all : c.loop-i.i ≡ c.planned-plan.result.count = omega (arith, c.loop-i.invariant.0, c.loop-i-test.false) in
-    (e.0, c.loop-i.invariant.1 ∙ rw all e.1)
+    let all : c.loop-i.i ≡ c.planned-plan.result.count = omega (arith, c.loop-i-test.false) in
+    (e.0, c.loop-i.invariant ∙ rw all e.1)

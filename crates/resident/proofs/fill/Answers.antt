@@ -46,19 +46,19 @@ record-good : (c : goal.After-record_at-from) → Good c.args.m.now c.args.s.now
 record-good c =
     let m = c.args.m.now in
     let s = c.args.s.now in
-    good m s c.loop-row.row (each_passes (record_ok m s) (rows_of m) c.loop-row.row c.requires.laid_out.4 (below-3 c))
+    good m s c.loop-row.row (each_passes (record_ok m s) (rows_of m) c.loop-row.row c.requires.laid_out.3 (below-3 c))
 
 record-good-2 : (c : goal.After-encode_resident-arg-1) → Good c.args.m.now c.args.s.now c.loop-row.row
 record-good-2 c =
     let m = c.args.m.now in
     let s = c.args.s.now in
-    good m s c.loop-row.row (each_passes (record_ok m s) (rows_of m) c.loop-row.row c.requires.laid_out.4 (below-6 c))
+    good m s c.loop-row.row (each_passes (record_ok m s) (rows_of m) c.loop-row.row c.requires.laid_out.3 (below-6 c))
 
 -- the slices are as long as they were lent
 lengths : (c : goal.After-struct_told-1)
     → (length c.loop-row.codes ≡ length c.args.codes.now) × (length c.loop-row.scales ≡ length c.args.scales.now) × (length c.loop-row.norms ≡ length c.args.norms.now)
 lengths c =
-    let g = c.args.levels in
+    let g = c.args.encoder.now.levels in
     let m = c.args.m.now in
     let s = c.args.s.now in
     let r = c.loop-row.row in
@@ -75,7 +75,7 @@ lengths c =
 lengths-2 : (c : goal.After-struct_known-in-loop-row-1)
     → (length c.loop-row.codes ≡ length c.args.codes.now) × (length c.loop-row.scales ≡ length c.args.scales.now) × (length c.loop-row.norms ≡ length c.args.norms.now)
 lengths-2 c =
-    let g = c.args.levels in
+    let g = c.args.encoder.now.levels in
     let m = c.args.m.now in
     let s = c.args.s.now in
     let r = c.loop-row.row in
@@ -92,7 +92,7 @@ lengths-2 c =
 lengths-3 : (c : goal.After-struct_known-in-loop-row-2-1)
     → (length c.loop-row.codes ≡ length c.args.codes.now) × (length c.loop-row.scales ≡ length c.args.scales.now) × (length c.loop-row.norms ≡ length c.args.norms.now)
 lengths-3 c =
-    let g = c.args.levels in
+    let g = c.args.encoder.now.levels in
     let m = c.args.m.now in
     let s = c.args.s.now in
     let r = c.loop-row.row in
@@ -109,7 +109,7 @@ lengths-3 c =
 lengths-4 : (c : goal.After-encode_resident-arg-1)
     → (length c.loop-row.codes ≡ length c.args.codes.now) × (length c.loop-row.scales ≡ length c.args.scales.now) × (length c.loop-row.norms ≡ length c.args.norms.now)
 lengths-4 c =
-    let g = c.args.levels in
+    let g = c.args.encoder.now.levels in
     let m = c.args.m.now in
     let s = c.args.s.now in
     let r = c.loop-row.row in
@@ -126,7 +126,7 @@ lengths-4 c =
 lengths-5 : (c : goal.After-loop-row)
     → (length c.loop-row.codes ≡ length c.args.codes.now) × (length c.loop-row.scales ≡ length c.args.scales.now) × (length c.loop-row.norms ≡ length c.args.norms.now)
 lengths-5 c =
-    let g = c.args.levels in
+    let g = c.args.encoder.now.levels in
     let m = c.args.m.now in
     let s = c.args.s.now in
     let r = c.loop-row.row in
@@ -210,7 +210,7 @@ part-2 c =
 pub loop-row-preserved : goal.loop-row-preserved
 loop-row-preserved c =
     let L = c.loop-row in
-    let g = c.args.levels in
+    let g = c.args.encoder.now.levels in
     let m = c.args.m.now in
     let s = c.args.s.now in
     let p = c.requires.laid_out.0 in
@@ -224,13 +224,13 @@ loop-row-preserved c =
       search rules,
       part_turn (λ r. (row_of g (midpoints_of g) m s r).codes) (dimensions_of m) (own_codes g (midpoints_of g) m s) c.args.codes.now 0 L.row I.1 (E.0 ∙ ap (λ (v : View). v.codes) w) (omega (arith, x)) (ap (λ x. L.row * c.args.layout.dimensions + x) p.dimensions) (omega (arith, f.0, l.0)),
       element_turn (λ r. (row_of g (midpoints_of g) m s r).scale) c.args.scales.now L.row I.2 (E.1 ∙ ap (λ (v : View). v.scale) w) (omega (arith, h, c.requires.m_in_bounds.1)),
-      element_turn (λ r. (row_of g (midpoints_of g) m s r).norm) c.args.norms.now L.row I.3 (norm_stored c.requires.laid_out.5 m s L.row p.high (E.2 ∙ ap (λ (v : View). v.norm) w)) (omega (arith, h, c.requires.m_in_bounds.2)),
+      element_turn (λ r. (row_of g (midpoints_of g) m s r).norm) c.args.norms.now L.row I.3 (norm_stored c.args.encoder.now.counted m s L.row p.high (E.2 ∙ ap (λ (v : View). v.norm) w)) (omega (arith, h, c.requires.m_in_bounds.2)),
     )
 
 pub loop-row-init : goal.loop-row-init
 loop-row-init c =
     let a = c.args in
-    let g = a.levels in
+    let g = a.encoder.now.levels in
     let m = a.m.now in
     let s = a.s.now in
     (search rules, store_none (λ r. (row_of g (midpoints_of g) m s r).codes) a.codes.now 0, store_none (λ r. (row_of g (midpoints_of g) m s r).scale ∷ []) a.scales.now 0, store_none (λ r. (row_of g (midpoints_of g) m s r).norm ∷ []) a.norms.now 0)
@@ -255,7 +255,7 @@ slice_bounds-encode_resident-end c = omega (arith, (spare-3 c).0)
 pub encode_resident-encoded-requires : goal.encode_resident-encoded-requires
 encode_resident-encoded-requires c =
     let q = asks c.args.m.now c.args.s.now c.loop-row.row (part-2 c) c.requires.laid_out.0.high c.record_at-from.ensures (record-good-2 c) in
-    record { t_value = (c.requires.laid_out.3, c.requires.laid_out.5); out_len_bound = q.0; at_value = q.1 }
+    record { out_len_bound = q.0; at_value = q.1 }
 
 pub offset_bounds-scales-row : goal.offset_bounds-scales-row
 offset_bounds-scales-row c = let h = below c in omega (arith, h, c.requires.laid_out.0.most)

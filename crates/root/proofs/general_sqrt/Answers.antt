@@ -1,15 +1,13 @@
+use mathlib.Core.Path.{sym, ◌∙◌}
 use lib.Ieee.{Float, nan, binary64, to_bits, of_bits}
 use Rattle.root.specs.SquareRoot.{IsRoot}
-use Rattle.float.proofs.BitLaws.{below-number, quiet, number_of_ne, through_bits, pattern_lt}
+use Rattle.float.proofs.BitLaws.{below-number, not_number, through_bits, pattern_lt}
 use Rattle.root.proofs.Scales.{nan_root, at_zero, at_infinity, at_minus, at-number}
 use native.Mathlib.Omega.{arith}
 use Rattle.root.proofs.general_sqrt.Goals as goal
 
-pub returns-then-x : goal.returns-then-x
-returns-then-x c = nan_root c.args.x c.if-x.true
-
-pub float_to_bits-bits : goal.float_to_bits-bits
-float_to_bits-bits c = number_of_ne c.args.x c.if-x.false
+pub returns-then-is_nan : goal.returns-then-is_nan
+returns-then-is_nan c = nan_root c.args.x (sym c.is_nan.ensures.value ∙ c.if-is_nan.true)
 
 pub returns-then-bits-eq0 : goal.returns-then-bits-eq0
 returns-then-bits-eq0 c =
@@ -17,7 +15,7 @@ returns-then-bits-eq0 c =
 
 pub returns-then-bits-gt9223372036854775808 : goal.returns-then-bits-gt9223372036854775808
 returns-then-bits-gt9223372036854775808 c =
-    rw quiet (through_bits (λ (y : Float). IsRoot y nan) c.args.x c.well_formed.0.1 (at_minus (to_bits binary64 c.args.x) c.if-bits-gt9223372036854775808.true (pattern_lt c.args.x c.well_formed.0.1)))
+    rw not_number (through_bits (λ (y : Float). IsRoot y nan) c.args.x c.well_formed.0.1 (at_minus (to_bits binary64 c.args.x) c.if-bits-gt9223372036854775808.true (pattern_lt c.args.x c.well_formed.0.1)))
 
 pub returns-then-bits-ge9218868437227405312 : goal.returns-then-bits-ge9218868437227405312
 returns-then-bits-ge9218868437227405312 c =

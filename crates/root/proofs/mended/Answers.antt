@@ -3,4 +3,4 @@ use native.Mathlib.Omega.{arith}
 use Rattle.root.proofs.mended.Goals as goal
 
 pub returns : goal.returns
-returns c = λ v e. mend v c.args.m c.args.z (omega arith) (omega arith) (omega arith) (omega arith) e
+returns c = λ v e. rw (c.from-up.ensures, c.from-down.ensures) (mend v c.args.m.value c.args.z (omega arith) c.requires.0 c.requires.1 e)

@@ -1,11 +1,8 @@
-use Rattle.root.proofs.Scales.{scale_small, scale_normal}
+use Rattle.root.proofs.Scales.{scale_small}
 use native.Mathlib.Omega.{arith}
 use Rattle.root.proofs.scale_of.Goals as goal
 
-pub returns-then-field-eq0 : goal.returns-then-field-eq0
-returns-then-field-eq0 c =
-    let z = c.raised.ensures in
-    scale_small c.args.bits c.raised.result.digits c.raised.result.exponent c.if-field-eq0.true z.0 z.1 z.2 z.3 z.4
-
-pub returns : goal.returns
-returns c = scale_normal c.args.bits (omega (arith, c.if-field-eq0.false)) (omega arith)
+pub returns-then-bits-lt4503599627370496 : goal.returns-then-bits-lt4503599627370496
+returns-then-bits-lt4503599627370496 c =
+    let z = c.raised.result in
+    scale_small c.args.bits z.digits.value z.exponent (omega arith) c.raised.ensures z.digits.full z.digits.short z.low z.high

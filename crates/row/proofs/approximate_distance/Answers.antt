@@ -8,13 +8,14 @@ use Rattle.row.proofs.approximate_distance.Goals as goal
 pub returns-in-SquaredL2 : goal.returns-in-SquaredL2
 unfolding distance_of
 returns-in-SquaredL2 c =
+    let q = c.args.query in
     rw c.in-SquaredL2.is
-    (rw (held c.args.row.norm c.requires.0, held c.args.query.norm c.requires.1, widened w64 tt c.ranges.dot) at c.squared_l2.ensures)
+    (rw (held c.args.row.norm c.requires, held q.row.norm q.exact, widened w64 tt c.ranges.dot) at c.squared_l2.ensures)
 
 pub returns-in-Cosine : goal.returns-in-Cosine
 unfolding distance_of
 returns-in-Cosine c =
-    rw c.in-Cosine.is (rw (held c.args.row.norm c.requires.0, widened w64 tt c.ranges.dot, c.requires.2) at c.cosine_of.ensures)
+    rw c.in-Cosine.is (rw (held c.args.row.norm c.requires, widened w64 tt c.ranges.dot, c.args.query.rooted) at c.cosine_of.ensures)
 
 pub returns-in-InnerProduct : goal.returns-in-InnerProduct
 unfolding distance_of

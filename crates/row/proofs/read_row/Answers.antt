@@ -8,7 +8,7 @@ pub returns-then-bits : goal.returns-then-bits
 unfolding read_of
 returns-then-bits c =
     let u = c.u64_at-bits in
-    rw (c.f64_value.ensures, to_z-of_z (record { sfits = c.i64_at.type_inv }), c.i64_at.ensures, u.ensures, rw u.ensures at (sym (above_bits u.result) ∙ c.if-bits.true))
+    rw (c.value.ensures, to_z-of_z (record { sfits = c.i64_at.type_inv }), c.i64_at.ensures, u.ensures, rw u.ensures at (sym (above_bits u.result) ∙ c.if-bits.true))
 
 pub returns : goal.returns
 unfolding read_of

@@ -12,7 +12,7 @@ unfolding answer
 returns-then-sums_hold c =
     let a = c.args in
     rw (sym c.sums_hold.ensures ∙ c.if-sums_hold.true)
-    (c.measured.ensures ∙ ap (measured a.place) (rw (to_z-of_z {w = w32} {z = a.sums.dot} (record { sfits = omega (arith, c.struct_told-1.given.0) })) at c.approximate_distance.ensures))
+    (c.measured.ensures ∙ ap (measured a.place) (rw (to_z-of_z {w = w32} {z = a.sums.dot} (record { sfits = omega arith })) at c.approximate_distance.ensures))
 
 pub returns : goal.returns
 unfolding answer
@@ -22,5 +22,5 @@ pub approximate_distance-requires : goal.approximate_distance-requires
 approximate_distance-requires c =
     let a = c.args in
     let s = a.sums in
-    let w : s.squares < 4294967296 = omega (arith, c.struct_told-1.given) in
-    (norm-small a.metric a.row.norm s.squares s.whole w (sym c.sums_hold.ensures ∙ c.if-sums_hold.true), c.requires.0, c.requires.1)
+    let w : s.check.squares < 4294967296 = omega arith in
+    norm-small a.metric a.row.norm s.check.squares s.check.whole w (sym c.sums_hold.ensures ∙ c.if-sums_hold.true)

@@ -5,5 +5,4 @@ use Rattle.row.proofs.sums_hold.Goals as goal
 pub returns : goal.returns
 returns c =
     let a = c.args in
-    let f = c.struct_told-1.given in
-    rw (c.is_cosine.ensures, count_bits a.row.norm a.squares (record { sfits = f.1.0.1 }) (omega (arith, c.ranges.squares.fits)), count_bits a.row.norm 0 (record { sfits = f.1.0.1 }) (omega arith))
+    rw (c.is_cosine.ensures, count_bits a.row.norm a.codes.squares (record { sfits = omega arith }) (omega arith), count_bits a.row.norm 0 (record { sfits = omega arith }) (omega arith))

@@ -1,7 +1,9 @@
 use native.Mathlib.Omega.{arith}
+use Prim.Native.Nat.{◌+◌}
 use mathlib.Core.Path.{◌≡◌}
 use mathlib.Core.Logic.{⊎_elim}
 use lib.ListN.{length}
+use Rattle.codes.proofs.Rows.{cut_bytes, cut_length}
 use Rattle.rank.proofs.Numbers.{eq_or_ne}
 use Rattle.scan.proofs.Far.{sums-cached, over-cached}
 use Rattle.scan.proofs.Scan.{lies_before, start-next}
@@ -12,7 +14,7 @@ loop-i-preserved c =
     let L = c.loop-i in
     let a = c.args in
     let o = over-cached a.levels a.metric L.i a.cache.now (length a.q.now) a.q.now c.row_sums-sums.result L.at L.invariant.2 a.query.scale a.query.norm {top = a.top}
-    c.row_sums-sums.ensures c.turned_away_cached.ensures c.if-not-turned_away_cached.false (omega arith) c.value_of_key-bound.ensures c.requires.norm_bound.2.far in (
+    (rw (cut_bytes a.cache.now (L.at + 16) (length a.q.now)) at c.row_sums-sums.ensures) c.turned_away_cached.ensures c.if-not-turned_away_cached.false (omega arith) c.value_of_key-bound.ensures c.requires.norm_bound.2.far in (
       omega (arith, L.invariant.0),
       omega (arith, c.loop-i-test.true),
       start-next (lies_before (length c.args.cache.now) c.args.rows (length c.args.q.now) c.loop-i.i c.requires.row_le_to.5 c.loop-i-test.true c.requires.row_le_to.1) L.invariant.2 c.row_length-stride.ensures,
@@ -34,7 +36,7 @@ overflow_add-at c = let h = lies_before (length c.args.cache.now) c.args.rows (l
 pub row_sums-sums-requires : goal.row_sums-sums-requires
 row_sums-sums-requires c =
     let h = lies_before (length c.args.cache.now) c.args.rows (length c.args.q.now) c.loop-i.i c.requires.row_le_to.5 c.loop-i-test.true c.requires.row_le_to.1 in
-    record { q_in_bounds = (omega (arith, h.within, c.loop-i.invariant.2), omega (arith, c.requires.row_le_to.3), c.requires.row_le_to.4.1); small = c.requires.norm_bound.1 }
+    record { bounds = (cut_length c.args.cache.now (c.loop-i.at + 16) (length c.args.q.now) (omega (arith, h.within, c.loop-i.invariant.2)), omega (arith, c.requires.row_le_to.3), c.requires.row_le_to.4.1); small = c.requires.norm_bound.1 }
 
 pub turned_away_cached-requires : goal.turned_away_cached-requires
 turned_away_cached-requires c =
@@ -48,7 +50,7 @@ returns-then-not-turned_away_cached c =
       from = c.loop-i.invariant.0;
       until = c.loop-i.invariant.1;
       over = c.loop-i.invariant.3;
-      here = λ z. sums-cached a.levels a.metric 0 a.cache.now (length a.q.now) a.q.now c.row_sums-sums.result c.loop-i.at c.loop-i.invariant.2 c.row_sums-sums.ensures;
+      here = λ z. sums-cached a.levels a.metric 0 a.cache.now (length a.q.now) a.q.now c.row_sums-sums.result c.loop-i.at c.loop-i.invariant.2 (rw (cut_bytes a.cache.now (c.loop-i.at + 16) (length a.q.now)) at c.row_sums-sums.ensures);
     }
 
 pub overflow_add-at-in-loop-i : goal.overflow_add-at-in-loop-i

@@ -5,4 +5,4 @@ use Rattle.scan.proofs.row_at.Goals as goal
 
 pub returns : goal.returns
 returns c =
-    (rw c.u64_at.ensures at c.f64_value.ensures, to_z-of_z {w = w64} (record { sfits = c.i64_at.type_inv }) ∙ c.i64_at.ensures)
+    (rw c.u64_at.ensures at c.value.ensures, to_z-of_z {w = w64} (record { sfits = c.i64_at.type_inv }) ∙ c.i64_at.ensures)

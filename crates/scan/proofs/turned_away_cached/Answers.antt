@@ -9,13 +9,13 @@ use Rattle.row.proofs.Views.{scaled}
 use Rattle.scan.proofs.Far.{turned_scaled, turned_not}
 use Rattle.scan.proofs.turned_away_cached.Goals as goal
 
-pub returns-in-Scaled : goal.returns-in-Scaled
-returns-in-Scaled c =
+pub returns-in-Some : goal.returns-in-Some
+returns-in-Some c =
     let a = c.args in
     let s = of_bits binary64 (le_at 8 a.cache.now a.at) in
     let n = to_z w64 (le_at 8 a.cache.now (a.at + 8)) in
-    let I = scaled s n (sym c.in-Scaled.is ∙ c.read_row.ensures) in
+    let I = scaled s n (sym c.in-Some.is ∙ c.read_row.ensures) in
     turned_scaled (scale_test s) I.test (rw (I.scale, I.norm) at c.turned_away.ensures)
 
-pub returns-in-Unscaled : goal.returns-in-Unscaled
-returns-in-Unscaled c = turned_not
+pub returns-in-None : goal.returns-in-None
+returns-in-None c = turned_not

@@ -52,7 +52,7 @@ part-5 c =
 
 pub rows_refusal-refusal-requires : goal.rows_refusal-refusal-requires
 rows_refusal-refusal-requires c =
-    (c.requires.0, c.requires.1, c.requires.2, c.requires.3, c.tables-tables.ensures, rw c.requires.0.rows (part c).below, c.loop-n-test.true, c.requires.5)
+    (c.requires.0, c.requires.1, c.requires.2, c.requires.3, rw c.requires.0.rows (part c).below, c.loop-n-test.true, c.requires.5)
 
 -- what the segment's test has answered
 said : (c : goal.Then-refusal-ne0)

@@ -54,7 +54,7 @@ returns c =
     rw (eq-eqb (bad_record a.m.now a.s.now (map key_row a.keys.now)) (length (map key_row a.keys.now)) (none-bad-2 c), ← c.crc_holds.ensures, c.if-crc_holds.false)
 
 pub bad_record-bad-requires : goal.bad_record-bad-requires
-bad_record-bad-requires c = (c.requires.0, c.requires.1, c.requires.2, c.requires.3, c.requires.5)
+bad_record-bad-requires c = (c.requires.0, c.requires.1, c.requires.2, c.requires.3, c.requires.4)
 
 pub crc_holds-requires : goal.crc_holds-requires
-crc_holds-requires c = (c.requires.0, c.requires.2, c.requires.3, c.requires.4, c.requires.6, c.requires.7)
+crc_holds-requires c = (c.requires.0, c.requires.2, c.requires.3, c.requires.5, c.requires.6)

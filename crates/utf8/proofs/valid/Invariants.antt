@@ -1,12 +1,11 @@
--- The loop passes a character a turn: what is left is valid exactly where the whole is.
+-- A turn passes a character: what is left is valid exactly where the whole is.
 use mathlib.Core.Path.{◌≡◌}
-use Prim.Native.Nat.{◌-◌, ◌≤◌}
-use lib.ListN.{length, drop}
+use lib.ListN.{length}
 use Rattle.utf8.specs.Utf8.{valid}
 use Rattle.utf8.proofs.valid.Given as goal
 
-abbrev pub invariant-loop-i : goal.invariant-loop-i
-invariant-loop-i l = (l.i ≤ length l.s) × (valid (drop l.i l.s) ≡ valid l.s)
+abbrev pub invariant-loop-rest : goal.invariant-loop-rest
+invariant-loop-rest l = valid l.rest ≡ valid l.s
 
-abbrev pub decreases-loop-i : goal.decreases-loop-i
-decreases-loop-i l = length l.s - l.i
+abbrev pub decreases-loop-rest : goal.decreases-loop-rest
+decreases-loop-rest l = length l.rest

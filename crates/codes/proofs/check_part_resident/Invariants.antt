@@ -1,9 +1,0 @@
-use Prim.Native.Nat.{◌+◌, ◌-◌, ◌≤◌}
-use Rattle.codes.specs.Sums.{Checked}
-use Rattle.codes.proofs.check_part_resident.Given as goal
-
-abbrev pub invariant-loop-j : goal.invariant-loop-j
-invariant-loop-j l = (l.j ≤ l.n) × Checked l.levels (l.p + l.j - l.i) l.c l.at l.i l.s.squares l.s.whole
-
-abbrev pub decreases-loop-j : goal.decreases-loop-j
-decreases-loop-j l = l.n - l.j

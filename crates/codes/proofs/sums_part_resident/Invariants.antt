@@ -1,9 +1,0 @@
-use Prim.Native.Nat.{◌+◌, ◌-◌, ◌≤◌}
-use Rattle.codes.specs.Sums.{Summed}
-use Rattle.codes.proofs.sums_part_resident.Given as goal
-
-abbrev pub invariant-loop-j : goal.invariant-loop-j
-invariant-loop-j l = (l.j ≤ l.n) × Summed l.levels (l.p + l.j - l.i) l.c l.at l.q l.i l.s
-
-abbrev pub decreases-loop-j : goal.decreases-loop-j
-decreases-loop-j l = l.n - l.j

@@ -1,0 +1,8 @@
+use Prim.Native.Nat.{◌-◌, ◌*◌, ◌^◌, ◌<◌, ◌≤◌}
+use Rattle.root.proofs.Radicand.floor_root.Given as goal
+
+abbrev pub invariant-loop-lo : goal.invariant-loop-lo
+invariant-loop-lo l = (l.lo < l.hi) × (l.hi ≤ 2 ^ 53) × (l.lo * l.lo ≤ l.self.value) × (l.self.value < l.hi * l.hi)
+
+abbrev pub decreases-loop-lo : goal.decreases-loop-lo
+decreases-loop-lo l = l.hi - l.lo

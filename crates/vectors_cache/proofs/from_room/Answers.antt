@@ -1,6 +1,0 @@
-use lib.ListN.{length-take}
-use native.Mathlib.Omega.{arith}
-use Rattle.vectors_cache.proofs.from_room.Goals as goal
-
-pub slice_bounds-prepare_case-end-2 : goal.slice_bounds-prepare_case-end-2
-slice_bounds-prepare_case-end-2 c = simp length-take (omega arith)

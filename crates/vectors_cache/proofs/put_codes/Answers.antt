@@ -1,6 +1,0 @@
-use lib.ListN.{length-set}
-use native.Mathlib.Omega.{arith}
-use Rattle.vectors_cache.proofs.put_codes.Goals as goal
-
-pub loop-i-preserved : goal.loop-i-preserved
-loop-i-preserved c = (simp length-set c.loop-i.invariant.0, omega arith)
