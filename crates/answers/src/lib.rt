@@ -13,10 +13,25 @@ ghost use Rattle.answers.specs.Places.{place_by, places_by};
 ghost use Rattle.answers.specs.Report.{report_by, turned_away};
 
 use config::Refusal;
-use format::Layout;
+use format::{Layout, Manifest};
 use search_spec::{Place, Report};
+use segment::Records;
 
 // ---- The answers.
+
+// What says where a record begins: no segment is read.
+fn records_of<'a>(m: &'a [u8], layout: Layout, starts: &'a [u64; 1025]) -> Records<'a>
+    requires { LaidOut m.now layout × (rows_ok m.now ≡ true) × (starts.now ≡ starts_of m.now) }
+    ensures { (result.manifest.bytes.now ≡ m.now) × (result.manifest.layout ≡ layout) }
+{
+    let manifest = Manifest { bytes: m, layout };
+    Records {
+        manifest,
+        metric: manifest.metric(),
+        starts,
+        segments: &[],
+    }
+}
 
 // A row of the list, with the key of its distance.
 fn place_of(m: &[u8], layout: Layout, starts: &[u64; 1025], key: u64, row: u64) -> Place
@@ -24,8 +39,9 @@ fn place_of(m: &[u8], layout: Layout, starts: &[u64; 1025], key: u64, row: u64) 
     ensures { result ≡ place_by m.now key row }
 {
     let n = row as usize;
-    let e = entries::read_entry(m, layout, n);
-    let start = segment::metadata_start(m, layout, starts, n);
+    let records = records_of(m, layout, starts);
+    let e = entries::read_entry(records.manifest, n);
+    let start = records.metadata_start(n);
     Place {
         id: e.id,
         distance: float::value_of_key(key),

@@ -3,6 +3,7 @@
 #![tactic(auto)]
 
 ghost use Rattle.std.specs.Prelude.{◌≡◌, [], length};
+ghost use Rattle.config.specs.Told.{told};
 ghost use Rattle.manifest.specs.Check.{checked, scratch_left};
 ghost use Rattle.segment.specs.Check.{checked_library};
 ghost use Rattle.quantization.specs.Encoder.{base_levels, midpoints};
@@ -16,8 +17,28 @@ ghost use Rattle.search_spec.specs.Kept.{cached as cached_outcome, resident as r
 ghost use Rattle.api_state.specs.Bytes.{head_bytes, head_in, bytes_of_cache, cache_in, resident_bytes, resident_in};
 ghost use Rattle.api_answers.specs.Numbers.{info_numbers, report_numbers, distance_four_of};
 
-use cache_format::Options;
+use cache_format::{Location, Options};
+use config::Refused;
+use prepare::Info;
+use quantized_cache::CacheState;
 use records::Record;
+use resident::ResidentState;
+
+// What is refused: its place goes into the room that the caller lends, its number is returned. Both are 0 where nothing is.
+fn tell<T>(answer: &Result<T, Refused>, place: &mut u64) -> u32
+    ensures { (result ≡ (told answer.now).number) × (place.new ≡ (told answer.now).place) }
+{
+    match answer {
+        Ok(_) => {
+            *place = 0;
+            0
+        }
+        Err(refused) => {
+            *place = refused.place;
+            refused.number.number()
+        }
+    }
+}
 
 // ---- The library check.
 
@@ -37,11 +58,9 @@ pub extern "C" fn pv_manifest_check(
     ensures scratch_after { scratch.new ≡ scratch_left manifest.now expected_crc scratch.old }
 {
     let answer = manifest::check(manifest, expected_crc, scratch);
-    let refusal = answer.refusal;
-    let accepted = answer.head;
-    api_state::put_head(accepted, head);
-    *place = refusal.place;
-    refusal.number
+    let number = tell(&answer, place);
+    api_state::put_head(answer.unwrap_or(format::zero_head()), head);
+    number
 }
 
 #[unsafe(no_mangle)]
@@ -61,11 +80,9 @@ pub extern "C" fn pv_library_check(
     ensures scratch_after { scratch.new ≡ scratch_left manifest.now expected_crc scratch.old }
 {
     let answer = segment::check(manifest, expected_crc, scratch, segments);
-    let refusal = answer.refusal;
-    let accepted = answer.head;
-    api_state::put_head(accepted, head);
-    *place = refusal.place;
-    refusal.number
+    let number = tell(&answer, place);
+    api_state::put_head(answer.unwrap_or(format::zero_head()), head);
+    number
 }
 
 // ---- The cache and the resident rows.
@@ -92,11 +109,12 @@ pub extern "C" fn pv_cache_size(
         max_cache_bytes: max_cache_bytes,
         buffer_bytes: buffer_bytes,
     };
-    let answer = quantized_cache::size(manifest, expected_crc, scratch, platform, root, options);
-    let refusal = answer.refusal;
-    *size = answer.size as u64;
-    *place = refusal.place;
-    refusal.number
+    let location = Location { platform, root };
+    let answer = quantized_cache::size(manifest, expected_crc, scratch, location, options);
+    let number = tell(&answer, place);
+    let bytes = answer.unwrap_or(0);
+    *size = bytes as u64;
+    number
 }
 
 #[unsafe(no_mangle)]
@@ -124,20 +142,26 @@ pub extern "C" fn pv_cache_prepare(
         max_cache_bytes: max_cache_bytes,
         buffer_bytes: buffer_bytes,
     };
+    let location = Location { platform, root };
     let answer = prepare::prepare(
         manifest,
         expected_crc,
         scratch,
         segments,
-        platform,
-        root,
+        location,
         options,
         cache,
     );
-    let refusal = answer.refusal;
-    *info = api_answers::info_numbers(answer.info);
-    *place = refusal.place;
-    refusal.number
+    let number = tell(&answer, place);
+    let nothing = Info {
+        generation: 0,
+        sequence: 0,
+        cache_bytes: 0,
+        code_bytes: 0,
+        parameter_bytes: 0,
+    };
+    *info = api_answers::info_numbers(answer.unwrap_or(nothing));
+    number
 }
 
 #[unsafe(no_mangle)]
@@ -164,20 +188,15 @@ pub extern "C" fn pv_cache_open(
         max_cache_bytes: max_cache_bytes,
         buffer_bytes: buffer_bytes,
     };
-    let answer = quantized_cache::open(
-        manifest,
-        expected_crc,
-        scratch,
-        cache,
-        platform,
-        root,
-        options,
-    );
-    let refusal = answer.refusal;
-    let accepted = answer.state;
-    api_state::put_cache(accepted, state);
-    *place = refusal.place;
-    refusal.number
+    let location = Location { platform, root };
+    let answer = quantized_cache::open(manifest, expected_crc, scratch, cache, location, options);
+    let number = tell(&answer, place);
+    let nothing = CacheState {
+        head: format::zero_head(),
+        cache: 0,
+    };
+    api_state::put_cache(answer.unwrap_or(nothing), state);
+    number
 }
 
 #[unsafe(no_mangle)]
@@ -211,11 +230,15 @@ pub extern "C" fn pv_resident_build(
         scales,
         norms,
     );
-    let refusal = answer.refusal;
-    let accepted = answer.state;
-    api_state::put_resident(accepted, state);
-    *place = refusal.place;
-    refusal.number
+    let number = tell(&answer, place);
+    let nothing = ResidentState {
+        head: format::zero_head(),
+        codes: 0,
+        scales: 0,
+        norms: 0,
+    };
+    api_state::put_resident(answer.unwrap_or(nothing), state);
+    number
 }
 
 // ---- Searches and their agreement counts, over a cache and over resident rows, of all ids or of those handed in.

@@ -23,10 +23,6 @@ pub length_counted : (s : List ℕ) → length (counted s) ≡ 4 + length s
 unfolding counted
 length_counted s = simp (length-append, length_bytes)
 
--- the manifest's part, as the code has it and as the definition does
-pub inner-is : (m : List ℕ) → 12 ≤ length m → take (length m - 4 - 8) (drop 8 m) ≡ inner m
-inner-is m h = let e : length m - 4 - 8 ≡ length m - 12 = omega arith in rw e
-
 pub length_inner : (m : List ℕ) → 12 ≤ length m → length (inner m) ≡ length m - 12
 length_inner m h = length-take-le (length m - 12) (drop 8 m) (rw (length-drop 8 m) (omega arith))
 

@@ -1,5 +1,5 @@
 -- The cache's bytes (document 01, Layouts, Cache: "`VECSQ801`, version 1 (u32), identity length u32, identity, rows, CRC-32").
-use Rattle.std.specs.Prelude.{List, [], ◌∷◌, ◌++◌, ℕ, ◌+◌, ◌-◌, ◌*◌, ◌≤◌, length, take, drop}
+use Rattle.std.specs.Prelude.{List, [], ◌∷◌, ◌++◌, ℕ, ◌+◌, ◌-◌, ◌*◌, length, take, drop}
 use Rattle.le.specs.Le.{bytes}
 use Rattle.crc32.specs.Crc.{crc32}
 
@@ -54,11 +54,3 @@ row_length dimensions = dimensions + 16
 -- "Size = identity + 20 + rows × (dimensions + 16)", and as many as stand between identity and rows
 abbrev pub cache_size : ℕ → ℕ → ℕ → ℕ → ℕ
 cache_size i between rows dimensions = i + 20 + between + rows * row_length dimensions
-
--- platform, root and manifest of lengths that sizing's 10 and the manifest's tests let pass, and room for the head of their cache
-pub record Lent (platform root m : List ℕ) (room : ℕ) : Type 0 where
-  pub platform-short : length platform ≤ 64
-  pub root-short : length root ≤ 1048576
-  pub long : 66 ≤ length m
-  pub short : length m ≤ 67108864
-  pub fits : 16 + identity_length (length platform) (length root) (length m) ≤ room

@@ -2,4 +2,5 @@
 pub mod Vectors
 pub mod Coordinates
 pub mod Refusals
+pub mod Numbers
 pub mod Metrics

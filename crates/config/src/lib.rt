@@ -3,6 +3,7 @@
 
 ghost use Rattle.std.specs.Prelude.{◌≡◌, ◌&&◌, ◌+◌, ◌*◌, ◌≤◌, leb, length};
 ghost use Rattle.config.specs.Limits.{max_results, max_candidates};
+ghost use Rattle.config.specs.Told.{number_of};
 ghost use Rattle.config.specs.Metric.{metric_of, byte_of, is_cosine};
 ghost use Rattle.config.specs.Refusal.{refused};
 ghost use Rattle.config.specs.Space.{valid_config, no_zero, valid_space};
@@ -45,6 +46,60 @@ pub fn limit_holds(k: usize, limit: usize) -> bool
     (k <= limit) & (limit <= MAX_CANDIDATES)
 }
 
+// What document 01's table turns away. Its number is the table's (`number_of`).
+#[derive(Clone, Copy, Debug, PartialEq, Eq)]
+pub enum Number {
+    Layout = 1,
+    Configuration,
+    ManifestCrc,
+    Tiling,
+    Record,
+    SegmentCrc,
+    Options,
+    CodeBytes,
+    CacheBytes,
+    Names,
+    Room,
+    CacheHead,
+    Identity,
+    Row,
+    CacheCrc,
+    Query,
+    Results,
+    Candidates,
+    Ids,
+    AnswerRoom,
+    Changed,
+    Approximate,
+    RecordChanged,
+    Original,
+}
+
+// Why a call is refused, and where: the error of every entry.
+#[derive(Clone, Copy, Debug, PartialEq, Eq)]
+pub struct Refused {
+    pub number: Number,
+    pub place: u64,
+}
+
+impl Number {
+    // Document 01's number.
+    pub fn number(self) -> u32
+        ensures { result ≡ number_of self }
+    {
+        self as u32
+    }
+}
+
+// A refusal whose place says nothing is at 0.
+impl From<Number> for Refused {
+    ghost from_gives = { λ number r. r ≡ record { number = number; place = 0 } };
+
+    fn from(number: Number) -> Refused {
+        Refused { number, place: 0 }
+    }
+}
+
 // A refusal's number and place; number 0 is none.
 #[derive(Clone, Copy)]
 pub struct Refusal {
@@ -75,6 +130,18 @@ impl TryFrom<u8> for Metric {
             1 => Ok(Metric::Cosine),
             2 => Ok(Metric::InnerProduct),
             _ => Err(UnknownMetric(byte)),
+        }
+    }
+}
+
+// As the definitions have it: what an entry that answers a `Refusal` makes of one that answers a `Result`.
+impl From<Refused> for Refusal {
+    ghost from_gives = { λ r refusal. refusal ≡ refused (number_of r.number) r.place };
+
+    fn from(r: Refused) -> Refusal {
+        Refusal {
+            number: r.number.number(),
+            place: r.place,
         }
     }
 }

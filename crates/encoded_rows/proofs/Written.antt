@@ -17,7 +17,7 @@ use Rattle.quantization.proofs.Encoded.{encoded_length, encoded-valid}
 use Rattle.format.specs.Fields.{dimensions_of, rows_of, metric_at}
 use Rattle.format.proofs.First.{each_passes, all_pass}
 use Rattle.segment.specs.Record.{record_at, vector_of, record_ok}
-use Rattle.segment.proofs.Records.{good}
+use Rattle.segment.proofs.RecordLaws.{good}
 use Rattle.encoded_rows.specs.Rows.{row_of, lowest_bad, bad_record_refusal}
 
 -- ---- the length of a row

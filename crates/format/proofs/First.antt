@@ -4,8 +4,10 @@ use mathlib.Core.Bool.{Bool, true, false, cond}
 use Prim.Native.Nat.{ℕ, zero, suc, ◌+◌, ◌-◌, ◌≤◌, ◌<◌}
 use native.Mathlib.Omega.{arith}
 use lib.Dec.{eqb}
-use borrow.Author.Tests.{eqb-true, eqb-false}
+use borrow.Author.Tests.{eqb-true, eqb-false, eq-eqb, ne_eqb}
+use Rattle.std.specs.Prelude.{Some, None}
 use Rattle.le.proofs.Chain.{by}
+use Rattle.config.specs.Told.{found}
 use Rattle.format.specs.Order.{first_from, first_bad, next_bad}
 
 -- a loop has come to i, and what it seeks is the first from there on
@@ -74,6 +76,19 @@ module _ {ok : ℕ → Bool} {n i first : ℕ} where
 
   pub reached_end : n ≤ i → Seeks ok n i first → i ≡ first
   reached_end h r = let e : n - i ≡ 0 = omega arith in sym (none ok i) ∙ (rw e at r.so)
+
+  -- the same, of a loop that answers what it found, or whether it found any
+  pub one_found : i < n → ok i ≡ false → Seeks ok n i first → Some i ≡ found n first
+  one_found h p r = rw (← reached_stop h p r, ne_eqb i n (λ e. omega (arith, h, e)))
+
+  pub none_found : n ≤ i → i ≤ n → Seeks ok n i first → None ≡ found n first
+  none_found h k r = rw (← reached_end h r, eq-eqb i n (omega arith))
+
+  pub one_bad : i < n → ok i ≡ false → Seeks ok n i first → false ≡ eqb first n
+  one_bad h p r = rw (← reached_stop h p r, ne_eqb i n (λ e. omega (arith, h, e)))
+
+  pub none_bad : n ≤ i → i ≤ n → Seeks ok n i first → true ≡ eqb first n
+  none_bad h k r = rw (← reached_end h r, eq-eqb i n (omega arith))
 
 pub next-first : (ok : ℕ → Bool) (n : ℕ) → next_bad ok n 0 ≡ first_bad ok n
 next-first ok n = let e : n - 0 ≡ n = omega arith in rw e refl

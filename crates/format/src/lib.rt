@@ -1,16 +1,18 @@
 // The manifest's head and segments: format.rs's `read_manifest` up to the rows' entries.
 #![tactic(auto)]
 
-ghost use Rattle.std.specs.Prelude.{◌≡◌, cond, not, ◌++◌, ◌+◌, ◌-◌, ◌≤◌, ◌<◌, eqb, length, take, drop, replicate};
+ghost use Rattle.std.specs.Prelude.{◌≡◌, cond, not, ◌++◌, ◌+◌, ◌-◌, ◌≤◌, ◌<◌, eqb, length, take, drop, replicate, IfOk};
 ghost use Rattle.le.specs.Le.{le_at};
 ghost use Rattle.utf8.specs.Grammar.{span as inside};
+ghost use Rattle.config.specs.Limits.{max_segment_bytes};
+ghost use Rattle.config.specs.Told.{numbered};
 ghost use Rattle.config.specs.Metric.{metric_of};
-ghost use Rattle.format.specs.Fields.{length_of_model, metric_in, metric_at, length_of, crc_of};
-ghost use Rattle.format.specs.Head.{opens_ok, kind_ok, identity_ok, counts_ok, head_number, bad_length, lengths_ok, config_at, head_at, zero_head};
+ghost use Rattle.format.specs.Fields.{length_of_model, metric_in, metric_at, length_of, crc_of, generation_of, sequence_of};
+ghost use Rattle.format.specs.Head.{opens_ok, kind_ok, identity_ok, counts_ok, head_number, lengths_ok, config_at, head_at, zero_head};
 ghost use Rattle.format.specs.Layout.{LaidOut};
 ghost use Rattle.format.specs.Same.{same_bytes, same_fields, is_same_head};
 
-use config::{Config, Metric};
+use config::{Config, Metric, Number};
 
 // "VECGEN01"
 const MAGIC: u64 = 0x3130_4e45_4743_4556;
@@ -141,27 +143,27 @@ fn kind_holds(m: &[u8]) -> bool
     (m[44] <= 2) & span(1, 512, count_at(m, 45))
 }
 
-// The number of the first of the head's tests that fails, or 0.
-pub fn head_number(m: &[u8]) -> u32
-    ensures { result ≡ head_number m.now }
+// 1 and 2: the head's tests, in their order.
+pub fn check_head(m: &[u8]) -> Result<(), Number>
+    ensures { numbered result ≡ head_number m.now }
 {
     if !opens(m) {
-        return 1;
+        return Err(Number::Layout);
     }
     if !kind_holds(m) {
-        return 2;
+        return Err(Number::Configuration);
     }
     let model = count_at(m, 45);
     if m.len() < 53 + model {
-        return 1;
+        return Err(Number::Layout);
     }
     if !identity_holds(m, model) {
-        return 2;
+        return Err(Number::Configuration);
     }
     if !counts_hold(m, model) {
-        return 1;
+        return Err(Number::Layout);
     }
-    0
+    Ok(())
 }
 
 // The n bytes at a place, with zeros after them.
@@ -179,6 +181,7 @@ pub fn read_model(b: &[u8], at: usize, n: usize) -> [u8; 512]
 }
 
 // The head of a manifest whose head passes its tests; and that of a refusal.
+#[tactic(auto, using(crate::proofs::Heads::bounds), unfolding(crate::specs::Fields::length_of_model))]
 pub fn read_head(m: &[u8]) -> Head
     requires { head_number m.now ≡ 0 }
     ensures { result ≡ head_at m.now }
@@ -219,6 +222,7 @@ pub fn zero_head() -> Head
 
 // ---- Segments.
 
+#[tactic(auto, using(crate::proofs::Heads::bounds), unfolding(crate::specs::Fields::length_of_model))]
 pub fn read_layout(m: &[u8]) -> Layout
     requires { head_number m.now ≡ 0 }
     ensures { LaidOut m.now result }
@@ -234,41 +238,86 @@ pub fn read_layout(m: &[u8]) -> Layout
     }
 }
 
-pub fn segment_length(m: &[u8], layout: Layout, n: usize) -> u64
-    requires { LaidOut m.now layout × (n < layout.segments) }
-    ensures { result ≡ length_of m.now n }
-{
-    le::u64_at(m, layout.table + 12 * n)
+// A manifest whose head passes its tests: its bytes, and where its parts lie.
+#[derive(Clone, Copy)]
+pub struct Manifest<'a> {
+    pub bytes: &'a [u8],
+    pub layout: Layout,
+    pub ghost laid_out: { LaidOut bytes.now layout },
 }
 
-pub fn segment_crc(m: &[u8], layout: Layout, n: usize) -> u32
-    requires { LaidOut m.now layout × (n < layout.segments) }
-    ensures { result ≡ crc_of m.now n }
-{
-    le::u32_at(m, layout.table + 12 * n + 8)
-}
-
-// The first segment whose length is out of bounds, or their count.
-fn bad_length(m: &[u8], layout: Layout) -> usize
-    requires { LaidOut m.now layout }
-    ensures { result ≡ bad_length m.now }
-{
-    let mut n = 0;
-    while n < layout.segments {
-        let length = segment_length(m, layout, n);
-        if !((4 <= length) & (length <= config::MAX_SEGMENT_BYTES as u64)) {
-            return n;
-        }
-        n += 1;
+impl<'a> Manifest<'a> {
+    pub fn read(bytes: &'a [u8]) -> Result<Manifest<'a>, Number>
+        ensures told { numbered result ≡ head_number bytes.now }
+        ensures bytes { IfOk result (λ m. m.bytes.now ≡ bytes.now) }
+    {
+        check_head(bytes)?;
+        Ok(Manifest {
+            bytes,
+            layout: read_layout(bytes),
+        })
     }
-    n
-}
 
-pub fn lengths_hold(m: &[u8], layout: Layout) -> bool
-    requires { LaidOut m.now layout }
-    ensures { result ≡ lengths_ok m.now }
-{
-    bad_length(m, layout) == layout.segments
+    pub fn metric(self) -> Metric
+        ensures { result ≡ metric_at self.entry.bytes.now }
+    {
+        metric(self.bytes)
+    }
+
+    // What a search compares later.
+    pub fn head(self) -> Head
+        requires { head_number self.bytes.now ≡ 0 }
+        ensures { result ≡ head_at self.entry.bytes.now }
+    {
+        read_head(self.bytes)
+    }
+
+    pub fn generation(self) -> u64
+        ensures { result ≡ generation_of self.entry.bytes.now }
+    {
+        le::u64_at(self.bytes, 8)
+    }
+
+    pub fn sequence(self) -> u64
+        ensures { result ≡ sequence_of self.entry.bytes.now }
+    {
+        le::u64_at(self.bytes, 16)
+    }
+
+    pub fn segment_length(self, n: usize) -> u64
+        requires { n < self.layout.segments }
+        ensures { result ≡ length_of self.entry.bytes.now n }
+    {
+        le::u64_at(self.bytes, self.layout.table + 12 * n)
+    }
+
+    pub fn segment_crc(self, n: usize) -> u32
+        requires { n < self.layout.segments }
+        ensures { result ≡ crc_of self.entry.bytes.now n }
+    {
+        le::u32_at(self.bytes, self.layout.table + 12 * n + 8)
+    }
+
+    // Whether a segment's length is in its bounds.
+    fn length_holds(self, n: usize) -> bool
+        requires { n < self.layout.segments }
+        ensures { result ≡ inside 4 max_segment_bytes (length_of self.entry.bytes.now n) }
+    {
+        let length = self.segment_length(n);
+        (4 <= length) & (length <= config::MAX_SEGMENT_BYTES as u64)
+    }
+
+    // Whether those of all segments are.
+    pub fn lengths_hold(self) -> bool
+        ensures { result ≡ lengths_ok self.entry.bytes.now }
+    {
+        for n in 0..self.layout.segments {
+            if !self.length_holds(n) {
+                return false;
+            }
+        }
+        true
+    }
 }
 
 // ---- What a search compares.
@@ -291,8 +340,8 @@ fn same_fields(a: Head, b: Head) -> bool
 pub fn same_head(m: &[u8], head: Head) -> bool
     ensures { result ≡ is_same_head m.now head }
 {
-    if head_number(m) != 0 {
-        return false;
+    match Manifest::read(m) {
+        Ok(manifest) => same_fields(manifest.head(), head) & manifest.lengths_hold(),
+        Err(_) => false,
     }
-    same_fields(read_head(m), head) & lengths_hold(m, read_layout(m))
 }

@@ -12,7 +12,7 @@ ghost use Rattle.search_spec.specs.Tests.{answers_ok, candidates_ok, room_ok, op
 ghost use Rattle.front.specs.Query.{Read};
 
 use config::Refusal;
-use format::{Head, Layout};
+use format::{Head, Layout, Manifest};
 use quantization::{Encoder, Row};
 use search_spec::Room;
 
@@ -121,16 +121,15 @@ pub fn entries(m: &[u8], layout: Layout) -> Refusal
     requires { LaidOut m.now layout }
     ensures { result ≡ entries_refusal m.now none }
 {
-    let bad = entries::bad_entry(m, layout);
-    if bad == layout.rows {
-        return Refusal {
+    match entries::bad_entry(Manifest { bytes: m, layout }) {
+        None => Refusal {
             number: 0,
             place: 0,
-        };
-    }
-    Refusal {
-        number: 21,
-        place: bad as u64,
+        },
+        Some(bad) => Refusal {
+            number: 21,
+            place: bad as u64,
+        },
     }
 }
 

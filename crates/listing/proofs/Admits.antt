@@ -19,7 +19,7 @@ use Rattle.manifest.specs.Check.{manifest_number, checked_by, checked}
 use Rattle.segment.specs.Check.{library_refusal, checked_library}
 use Rattle.quantized_cache.specs.Size.{size_number}
 use Rattle.quantized_cache.specs.Open.{open_number, open_refusal, state_of, zero_cache_state, opened_by, opened}
-use Rattle.quantized_cache.specs.declared.Opened.{Opened}
+use Rattle.quantized_cache.specs.Open.{Opened}
 use Rattle.listing_text.specs.Listing.{most_places}
 use Rattle.listing.specs.Output.{admitted}
 

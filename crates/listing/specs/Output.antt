@@ -9,7 +9,7 @@ use Rattle.cache_format.specs.Sizing.{default_options}
 use Rattle.manifest.specs.Check.{checked}
 use Rattle.segment.specs.Check.{checked_library}
 use Rattle.quantized_cache.specs.Open.{opened, opened_by}
-use Rattle.quantized_cache.specs.declared.Opened.{Opened}
+use Rattle.quantized_cache.specs.Open.{Opened}
 use Rattle.search_spec.specs.Lent.{Call, Answers, Work, answers_of, work_of, call_of, every}
 use Rattle.search_spec.specs.Outcome.{Outcome}
 use Rattle.search_spec.specs.declared.Place.{Place}

@@ -5,7 +5,7 @@ ghost use Rattle.std.specs.Prelude.{◌≡◌, ◌≤◌, length};
 ghost use Rattle.io.specs.Counts.{IsPrefixLen};
 ghost use Rattle.text.specs.Put.{Put};
 ghost use Rattle.format.specs.Fields.{stored_crc};
-ghost use Rattle.quantized_cache.specs.Open.{zero_cache_state};
+ghost use Rattle.quantized_cache.specs.Open.{open_outcome};
 ghost use Rattle.search_spec.specs.Lent.{call_of, every};
 ghost use Rattle.search_spec.specs.Kept.{cached};
 ghost use Rattle.listing_text.specs.Listing.{most_places, listing_bytes};
@@ -13,11 +13,11 @@ ghost use Rattle.listing_input.specs.Files.{files_of, all_of};
 ghost use Rattle.listing_input.specs.Parts.{max_file_bytes};
 ghost use Rattle.listing.specs.Output.{admitted, lent_answers, lent_work, call_on, answer_text, list_answer as answer_of, output};
 
-use cache_format::Options;
-use config::Refusal;
+use cache_format::{Location, Options};
+use config::{Refusal, Refused};
 use listing_input::{Input, InputError, Whole};
 use listing_text::{LISTING_BYTES, MOST_PLACES};
-use quantized_cache::{CacheState, Opened};
+use quantized_cache::CacheState;
 use text::Writer;
 
 // The f32s of a QUERY of 65,536 bytes.
@@ -33,43 +33,25 @@ fn own_crc(m: &[u8]) -> u32
     le::u32_at(m, m.len() - 4)
 }
 
-// A refusal, and no state.
-fn refused(refusal: Refusal) -> Opened
-    ensures { result ≡ record { refusal = refusal; state = zero_cache_state } }
-{
-    let state = CacheState {
-        head: format::zero_head(),
-        cache: 0,
-    };
-    Opened {
-        refusal: refusal,
-        state: state,
-    }
-}
-
 // The manifest's check, the segments' check and the opening, up to the first that refuses.
-fn admit(manifest: &[u8], segments: &[u8], cache: &[u8], platform: &[u8], root: &[u8]) -> Opened
-    ensures { result ≡ admitted manifest.now segments.now cache.now platform.now root.now }
+fn admit(
+    manifest: &[u8],
+    segments: &[u8],
+    cache: &[u8],
+    location: Location<'_>,
+) -> Result<CacheState, Refused>
+    ensures { open_outcome result ≡ admitted manifest.now segments.now cache.now location.entry.platform.now location.entry.root.now }
 {
     let crc = own_crc(manifest);
     let mut scratch: [u64; MOST_PLACES] = text::zeros();
-    let first = manifest::check(manifest, crc, &mut scratch);
-    let refusal = first.refusal;
-    if refusal.number != 0 {
-        return refused(refusal);
-    }
-    let second = segment::check(manifest, crc, &mut scratch, segments);
-    let refusal = second.refusal;
-    if refusal.number != 0 {
-        return refused(refusal);
-    }
+    manifest::check(manifest, crc, &mut scratch)?;
+    segment::check(manifest, crc, &mut scratch, segments)?;
     quantized_cache::open(
         manifest,
         crc,
         &mut scratch,
         cache,
-        platform,
-        root,
+        location,
         Options::default(),
     )
 }
@@ -154,19 +136,14 @@ fn answer(files: &Whole, out: &mut [u8]) -> usize
 {
     let n = files.newline;
     let from = n + 1;
-    let opened = admit(
-        files.manifest,
-        files.segments,
-        files.cache,
-        &files.place[..n],
-        &files.place[from..],
-    );
-    let refusal = opened.refusal;
-    if refusal.number != 0 {
-        return listing_text::write_refusal(out, refusal);
+    let location = Location {
+        platform: &files.place[..n],
+        root: &files.place[from..],
+    };
+    match admit(files.manifest, files.segments, files.cache, location) {
+        Ok(state) => find(state, files, out),
+        Err(refused) => listing_text::write_refusal(out, Refusal::from(refused)),
     }
-    let state = opened.state;
-    find(state, files, out)
 }
 
 // A line that is printed alone.

@@ -1,19 +1,30 @@
 -- The manifest check (document 01, What each place turns away: "Manifest checks run in the order `read_manifest` reads; a short scratch
 -- slice gives 11 before the tiling test"; all places are 0).
-use Rattle.std.specs.Prelude.{cond, List, ℕ, eqb, length}
+use Rattle.std.specs.Prelude.{cond, List, ℕ, eqb, length, Result}
 use Rattle.le.specs.Le.{zeros}
 use Rattle.config.specs.Refusal.{refused, unless_refused}
+use Rattle.config.specs.Told.{told, granted}
 use Rattle.config.specs.declared.Refusal.{Refusal}
+use Rattle.config.specs.declared.Refused.{Refused}
 use Rattle.format.specs.Order.{unless, or_else}
 use Rattle.format.specs.Head.{head_at, zero_head}
 use Rattle.entries.specs.Plan.{plan_number}
 use Rattle.manifest.specs.Tiling.{tiled}
 use Rattle.manifest.specs.Scratch.{ordered}
-use Rattle.manifest.specs.declared.Checked.{Checked}
+use Rattle.format.specs.declared.Head.{Head}
 
 -- the number of the first test that fails, or 0
 unfoldable pub manifest_number : List ℕ → ℕ → ℕ → ℕ
 manifest_number m expected scratch = or_else (plan_number m expected scratch) (unless (tiled m) 4 0)
+
+-- a refusal, and the head that a search compares
+pub record Checked : Type 0 where
+  pub refusal : Refusal
+  pub head : Head
+
+-- what the code answers
+abbrev pub outcome : Result Head Refused → Checked
+outcome r = record { refusal = told r; head = granted zero_head r }
 
 -- what is answered: a refusal and zeros, or the head (document 01: "A refusal returns its number and a place"; readings R23)
 unfoldable pub checked_by : List ℕ → Refusal → Checked

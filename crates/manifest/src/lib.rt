@@ -1,40 +1,37 @@
 // What a manifest is: format.rs's `read_manifest`, whole. The rows are ordered by segment and offset in a lent scratch.
 #![tactic(auto)]
 
-ghost use Rattle.std.specs.Prelude.{◌≡◌, true, ◌++◌, map, ◌+◌, ◌≤◌, ◌<◌, length, drop};
+ghost use Rattle.std.specs.Prelude.{◌≡◌, true, ◌++◌, map, ◌≤◌, ◌<◌, length, drop, IfOk};
 ghost use Rattle.rank.specs.Rows.{passing};
+ghost use Rattle.config.specs.Told.{numbered};
 ghost use Rattle.format.specs.Fields.{rows_of};
 ghost use Rattle.format.specs.Head.{head_number};
-ghost use Rattle.format.specs.Layout.{LaidOut};
 ghost use Rattle.entries.specs.Plan.{rows_ok};
 ghost use Rattle.manifest.specs.Tiling.{covers as covered, tiled};
 ghost use Rattle.manifest.specs.Scratch.{key, key_row, row_keys, ordered, run as run_of, Below};
-ghost use Rattle.manifest.specs.Check.{manifest_number, checked_by, checked, scratch_left, scratch_held};
+ghost use Rattle.manifest.specs.Check.{manifest_number, outcome, checked, scratch_left, scratch_held};
 
-use config::Refusal;
-use format::{Head, Layout};
+use config::{Number, Refused};
+use format::{Head, Manifest};
 
-// A refusal, or the head of an accepted manifest.
+// An accepted manifest, and its rows in the order of their records, as keys of the scratch.
 #[derive(Clone, Copy)]
-pub struct Checked {
-    pub refusal: Refusal,
-    pub head: Head,
-}
-
-fn wide(x: u32) -> u64
-    ensures { result ≡ x }
-{
-    x as u64
+pub struct Accepted<'a> {
+    pub manifest: Manifest<'a>,
+    pub keys: &'a [u64],
+    pub ghost head: { head_number manifest.bytes.now ≡ 0 },
+    pub ghost rows: { rows_ok manifest.bytes.now ≡ true },
+    pub ghost order: { keys.now ≡ row_keys manifest.bytes.now },
 }
 
 // ---- The rows in order.
 
-fn key_of(m: &[u8], layout: Layout, row: usize) -> u64
-    requires { LaidOut m.now layout × (row < layout.rows) × (rows_ok m.now ≡ true) }
-    ensures { result ≡ key m.now row }
+fn key_of(m: Manifest<'_>, row: usize) -> u64
+    requires { (row < m.layout.rows) × (rows_ok m.bytes.now ≡ true) }
+    ensures { result ≡ key m.entry.bytes.now row }
 {
-    let e = entries::read_entry(m, layout, row);
-    (wide(e.segment) * 67108864 + wide(e.offset)) * 1048576 + row as u64
+    let e = entries::read_entry(m, row);
+    (e.segment as u64 * 67108864 + e.offset as u64) * 1048576 + row as u64
 }
 
 pub fn key_row(key: u64) -> usize
@@ -43,24 +40,21 @@ pub fn key_row(key: u64) -> usize
     (key % 1048576) as usize
 }
 
-fn fill(m: &[u8], layout: Layout, scratch: &mut [u64])
-    requires { LaidOut m.now layout × (layout.rows ≤ length scratch.old) × (rows_ok m.now ≡ true) }
-    ensures { scratch.new ≡ map (key m.now) (passing (λ r. true) (rows_of m.now)) ++ drop (rows_of m.now) scratch.old }
+fn fill(m: Manifest<'_>, scratch: &mut [u64])
+    requires { (m.layout.rows ≤ length scratch.old) × (rows_ok m.bytes.now ≡ true) }
+    ensures { scratch.new ≡ map (key m.entry.bytes.now) (passing (λ r. true) (rows_of m.entry.bytes.now)) ++ drop (rows_of m.entry.bytes.now) scratch.old }
 {
-    let mut row = 0;
-    while row < layout.rows {
-        let k = key_of(m, layout, row);
-        scratch[row] = k;
-        row += 1;
+    for row in 0..m.layout.rows {
+        scratch[row] = key_of(m, row);
     }
 }
 
-fn order(m: &[u8], layout: Layout, scratch: &mut [u64])
-    requires { LaidOut m.now layout × (layout.rows ≤ length scratch.old) × (rows_ok m.now ≡ true) }
-    ensures { scratch.new ≡ ordered m.now scratch.old }
+fn order(m: Manifest<'_>, scratch: &mut [u64])
+    requires { (m.layout.rows ≤ length scratch.old) × (rows_ok m.bytes.now ≡ true) }
+    ensures { scratch.new ≡ ordered m.entry.bytes.now scratch.old }
 {
-    fill(m, layout, scratch);
-    let rows = layout.rows;
+    fill(m, scratch);
+    let rows = m.layout.rows;
     rank::sort_numbers(&mut scratch[..rows]);
 }
 
@@ -68,107 +62,73 @@ fn order(m: &[u8], layout: Layout, scratch: &mut [u64])
 pub fn run(keys: &[u64], n: usize) -> usize
     ensures { result ≡ run_of n keys.now }
 {
-    let mut i = 0;
-    while i < keys.len() {
-        if keys[i] / 70368744177664 != n as u64 {
+    for (i, key) in keys.iter().enumerate() {
+        if key / 70368744177664 != n as u64 {
             return i;
         }
-        i += 1;
     }
-    i
+    keys.len()
 }
 
 // ---- The tiling.
 
 // Whether the rows of these keys follow each other through a segment of this length.
-fn covers(m: &[u8], layout: Layout, keys: &[u64], length: u64) -> bool
-    requires { LaidOut m.now layout × Below layout.rows keys.now }
-    ensures { result ≡ covered m.now length (map key_row keys.now) }
+fn covers(m: Manifest<'_>, keys: &[u64], length: u64) -> bool
+    requires { Below m.layout.rows keys.now }
+    ensures { result ≡ covered m.entry.bytes.now length (map key_row keys.now) }
 {
-    if keys.len() == 0 {
+    if keys.is_empty() {
         return false;
     }
     let mut at = 0;
-    let mut i = 0;
-    while i < keys.len() {
-        let e = entries::read_entry(m, layout, key_row(keys[i]));
+    for key in keys {
+        let e = entries::read_entry(m, key_row(*key));
         if e.offset as usize != at {
             return false;
         }
-        at = entries::record_end(e, layout.dimensions);
-        i += 1;
+        at = e.end(m.layout.dimensions);
     }
     (at + 4) as u64 == length
 }
 
-fn tiles(m: &[u8], layout: Layout, keys: &[u64]) -> bool
-    requires { LaidOut m.now layout × (rows_ok m.now ≡ true) × (keys.now ≡ row_keys m.now) }
-    ensures { result ≡ tiled m.now }
+fn tiles(m: Manifest<'_>, keys: &[u64]) -> bool
+    requires { (rows_ok m.bytes.now ≡ true) × (keys.now ≡ row_keys m.bytes.now) }
+    ensures { result ≡ tiled m.entry.bytes.now }
 {
     let mut i = 0;
-    let mut n = 0;
-    while n < layout.segments {
+    for n in 0..m.layout.segments {
         let j = i + run(&keys[i..], n);
-        let length = format::segment_length(m, layout, n);
-        if !covers(m, layout, &keys[i..j], length) {
+        if !covers(m, &keys[i..j], m.segment_length(n)) {
             return false;
         }
         i = j;
-        n += 1;
     }
     true
 }
 
 // ---- The check.
 
-// The number of the first test that fails, or 0, and then the scratch holds the rows in order.
-pub fn accept(m: &[u8], expected: u32, scratch: &mut [u64]) -> u32
-    ensures { (result ≡ manifest_number m.now expected (length scratch.old))
-        × (scratch.new ≡ scratch_held m.now expected scratch.old) }
+// All tests, in their order. Where none fails the scratch then holds the rows in order.
+pub fn accept<'a>(m: &'a [u8], expected: u32, scratch: &mut [u64]) -> Result<Manifest<'a>, Number>
+    ensures told { numbered result ≡ manifest_number m.now expected (length scratch.old) }
+    ensures bytes { IfOk result (λ a. a.bytes.now ≡ m.now) }
+    ensures scratch_after { scratch.new ≡ scratch_held m.now expected scratch.old }
 {
-    let number = entries::plan(m, expected, scratch.len());
-    if number != 0 {
-        return number;
-    }
-    let layout = format::read_layout(m);
-    order(m, layout, scratch);
-    let rows = layout.rows;
-    if tiles(m, layout, &scratch[..rows]) {
-        return 0;
+    let manifest = entries::plan(m, expected, scratch.len())?;
+    order(manifest, scratch);
+    let rows = manifest.layout.rows;
+    if tiles(manifest, &scratch[..rows]) {
+        return Ok(manifest);
     }
     le::clear(scratch);
-    4
+    Err(Number::Tiling)
 }
 
-// The answer to a refusal, or to none.
-pub fn answer(m: &[u8], refusal: Refusal) -> Checked
-    requires { refusal.number ≡ 0 → head_number m.now ≡ 0 }
-    ensures { result ≡ checked_by m.now refusal }
-{
-    if refusal.number == 0 {
-        return Checked {
-            refusal: refusal,
-            head: format::read_head(m),
-        };
-    }
-    Checked {
-        refusal: refusal,
-        head: format::zero_head(),
-    }
-}
-
-pub fn check(manifest: &[u8], expected_crc: u32, scratch: &mut [u64]) -> Checked
-    ensures { (result ≡ checked manifest.now expected_crc (length scratch.old))
+pub fn check(manifest: &[u8], expected_crc: u32, scratch: &mut [u64]) -> Result<Head, Refused>
+    ensures { (outcome result ≡ checked manifest.now expected_crc (length scratch.old))
         × (scratch.new ≡ scratch_left manifest.now expected_crc scratch.old) }
 {
-    let number = accept(manifest, expected_crc, scratch);
-    let refusal = Refusal {
-        number: number,
-        place: 0,
-    };
-    if number == 0 {
-        le::clear(scratch);
-        return answer(manifest, refusal);
-    }
-    answer(manifest, refusal)
+    let accepted = accept(manifest, expected_crc, scratch)?;
+    le::clear(scratch);
+    Ok(accepted.head())
 }

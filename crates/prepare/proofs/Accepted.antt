@@ -16,7 +16,7 @@ use Rattle.cache_format.specs.declared.Options.{Options}
 use Rattle.manifest.specs.Check.{manifest_number}
 use Rattle.manifest.proofs.Passed.{other-room, manifest_not_5}
 use Rattle.segment.specs.Check.{library_refusal}
-use Rattle.segment.proofs.Library.{library_accepted, accepted-number}
+use Rattle.segment.proofs.LibraryLaws.{library_accepted, accepted-number}
 use Rattle.quantized_cache.specs.Size.{size_of, sizing_of}
 use Rattle.encoded_rows.specs.Rows.{bad_record_refusal}
 use Rattle.encoded_rows.proofs.Written.{all_good}

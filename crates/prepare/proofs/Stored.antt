@@ -12,7 +12,14 @@ use Rattle.le.proofs.Chain.{held}
 use Rattle.le.proofs.LeLaws.{length_bytes}
 use Rattle.le.proofs.Pastes.{paste-first, paste-next}
 use Rattle.crc32.specs.Crc.{crc32}
-use Rattle.config.specs.Refusal.{refused, refused_or}
+use Rattle.config.specs.Refusal.{none, refused, refused_or}
+use Rattle.config.specs.declared.Refusal.{Refusal}
+use Rattle.config.specs.declared.Refused.{Refused}
+use Rattle.config.specs.Told.{number_of, told}
+use Rattle.config.proofs.Numbers.{some_number}
+use Rattle.std.specs.Prelude.{Result}
+use Rattle.std.specs.Result.{IsErrAnd}
+use Rattle.std.proofs.lemmas.Result.{err_from_is_err_and}
 use Rattle.config.proofs.Refusals.{not_zero, goes_on, stops, none-refused, is-other, Plain, plain_or}
 use Rattle.quantization.specs.Encoder.{base_levels, midpoints}
 use Rattle.format.specs.Fields.{rows_of, dimensions_of}
@@ -27,7 +34,7 @@ use Rattle.quantization.specs.View.{row_bytes}
 use Rattle.encoded_rows.specs.Rows.{row_of, rows_bytes, lowest_bad, bad_record_refusal}
 use Rattle.encoded_rows.proofs.Written.{length_own, none-bad, records-plain}
 use Rattle.le.proofs.Joined.{length_joined}
-use Rattle.prepare.specs.Prepare.{cache_room_number, store_refusal, accepted_refusal, prepare_refusal, cache_of, cache_after, info_of, no_info, prepared_by}
+use Rattle.prepare.specs.Prepare.{cache_room_number, store_refusal, accepted_refusal, prepare_refusal, cache_of, cache_after}
 
 -- what is not refused after sizing
 pub late-passed : (m s : List ℕ) (size room : ℕ) → (store_refusal m s size room).number ≡ 0 → (size ≤ room) × (lowest_bad m s ≡ rows_of m)
@@ -35,6 +42,10 @@ unfolding store_refusal
 late-passed m s size room h =
     let a = none-refused (cache_room_number size room) (bad_record_refusal m s) h in
     (leb-true size room (held (leb size room) not_zero a.0).0, none-bad m s a.1)
+
+-- the same, as the tests answer it
+pub may_store : (m s : List ℕ) (size room : ℕ) → none ≡ store_refusal m s size room → (size ≤ room) × (lowest_bad m s ≡ rows_of m)
+may_store m s size room e = late-passed m s size room (sym (ap (λ (r : Refusal). r.number) e))
 
 pub length_rows : (m s : List ℕ) (n : ℕ) → length (rows_bytes base_levels midpoints m s n) ≡ n * (dimensions_of m + 16)
 length_rows m s n = length_joined (λ r. row_bytes (row_of base_levels midpoints m s r)) (dimensions_of m + 16) (length_own base_levels midpoints m s) n
@@ -100,13 +111,15 @@ module _ (m s platform root : List ℕ) (o : Options) (room : ℕ) where
   unfolding accepted_refusal
   sized h = goes_on (sizing_of m platform root o) (store_refusal m s (size_of m platform root) room) h
 
-pub refused-answer : (m : List ℕ) (size other n : ℕ) → (n ≡ 0 → ⊥) → prepared_by m size (refused n 0) ≡ prepared_by m other (refused n 0)
-unfolding prepared_by
-refused-answer m size other n h = rw (is-other (refused n 0) (info_of m size) no_info h, is-other (refused n 0) (info_of m other) no_info h)
-
-pub refused-cache : (m s platform root d : List ℕ) (n : ℕ) → (n ≡ 0 → ⊥) → d ≡ cache_after m s platform root (refused n 0) d
+-- on a refusal the cache stays
+pub refused-cache : (m s platform root d : List ℕ) (r : Refusal) → (r.number ≡ 0 → ⊥) → d ≡ cache_after m s platform root r d
 unfolding cache_after
-refused-cache m s platform root d n h = sym (is-other (refused n 0) (cache_of m s platform root ++ drop (size_of m platform root) d) d h)
+refused-cache m s platform root d r h = sym (is-other r (cache_of m s platform root ++ drop (size_of m platform root) d) d h)
+
+-- the same at the exit of a `?`
+pub cache_stays : {A : Type 0} (Q : Refused → Type 0) (r : Result A Refused) → IsErrAnd r Q → (m s platform root d : List ℕ) → d ≡ cache_after m s platform root (told r) d
+cache_stays Q r h m s platform root d =
+    let p = err_from_is_err_and r h in rw p.1 (refused-cache m s platform root d (refused (number_of p.0.number) p.0.place) (some_number p.0.number))
 
 -- what is prepared has passed all tests
 pub record Ready (m : List ℕ) (expected room : ℕ) (s platform root : List ℕ) (o : Options) (lent : ℕ) : Type 0 where

@@ -1,8 +1,10 @@
 -- Preparing (document 01, What each place turns away: "Preparing: 10, 7, 8, 9, 11, then 5 for the lowest bad row, all before the first byte
 -- is stored", after the manifest is tested anew; "11: a lent slice too short (added)": "a cache under its size").
-use Rattle.std.specs.Prelude.{List, ◌++◌, ℕ, ◌*◌, leb, drop}
+use Rattle.std.specs.Prelude.{List, ◌++◌, ℕ, ◌*◌, leb, drop, Result}
 use Rattle.config.specs.Refusal.{refused_or, unless_refused}
+use Rattle.config.specs.Told.{told, granted}
 use Rattle.config.specs.declared.Refusal.{Refusal}
+use Rattle.config.specs.declared.Refused.{Refused}
 use Rattle.quantization.specs.Encoder.{base_levels, midpoints}
 use Rattle.format.specs.Order.{unless}
 use Rattle.format.specs.Fields.{generation_of, sequence_of, rows_of, dimensions_of}
@@ -12,7 +14,6 @@ use Rattle.manifest.specs.Check.{manifest_number}
 use Rattle.quantized_cache.specs.Size.{sizing_of, size_of}
 use Rattle.encoded_rows.specs.Rows.{rows_bytes, bad_record_refusal}
 use Rattle.prepare.specs.declared.Info.{Info}
-use Rattle.prepare.specs.declared.Prepared.{Prepared}
 
 -- 11: `room` is the length of the cache lent
 abbrev pub cache_room_number : ℕ → ℕ → ℕ
@@ -51,6 +52,15 @@ info_of m size =
 
 abbrev pub no_info : Info
 no_info = record { generation = 0; sequence = 0; cache_bytes = 0; code_bytes = 0; parameter_bytes = 0 }
+
+-- a refusal, and what was prepared
+pub record Prepared : Type 0 where
+  pub refusal : Refusal
+  pub info : Info
+
+-- what the code answers
+abbrev pub outcome : Result Info Refused → Prepared
+outcome r = record { refusal = told r; info = granted no_info r }
 
 unfoldable pub prepared_by : List ℕ → ℕ → Refusal → Prepared
 prepared_by m size refusal = record { refusal = refusal; info = unless_refused refusal (info_of m size) no_info }

@@ -2,28 +2,27 @@
 #![tactic(auto)]
 
 ghost use Rattle.std.specs.Prelude.{◌≡◌, true, ◌++◌, ◌+◌, ◌*◌, ◌≤◌, length, take, drop};
+ghost use Rattle.config.specs.Told.{told};
 ghost use Rattle.quantization.specs.Encoder.{base_levels, midpoints};
 ghost use Rattle.format.specs.Fields.{rows_of, dimensions_of};
-ghost use Rattle.format.specs.Head.{head_number};
-ghost use Rattle.format.specs.Layout.{LaidOut};
-ghost use Rattle.entries.specs.Plan.{rows_ok};
 ghost use Rattle.crc32.specs.Crc.{crc32};
 ghost use Rattle.le.specs.Le.{bytes, paste};
 ghost use Rattle.manifest.specs.Scratch.{row_keys};
 ghost use Rattle.manifest.specs.Check.{scratch_left};
-ghost use Rattle.segment.specs.Record.{starts_of};
-ghost use Rattle.cache_format.specs.Cache.{row_length, Lent};
+ghost use Rattle.cache_format.specs.Cache.{row_length};
 ghost use Rattle.quantized_cache.specs.Size.{size_of};
 ghost use Rattle.encoded_rows.specs.Rows.{rows_bytes, lowest_bad};
-ghost use Rattle.prepare.specs.Prepare.{store_refusal, cache_of, cache_after, info_of, prepared_by, prepared_accepted, prepared};
+ghost use Rattle.prepare.specs.Prepare.{store_refusal, cache_of, cache_after, info_of, outcome, prepared_accepted, prepared};
 
-use cache_format::Options;
-use config::Refusal;
-use format::Layout;
+use cache_format::{Identity, Location, Options};
+use config::{Number, Refused};
+use format::Manifest;
+use manifest::Accepted;
 use quantization::Encoder;
+use segment::Library;
 
 // What was prepared: the Rust's `QuantizedCacheInfo`.
-#[derive(Clone, Copy)]
+#[derive(Clone, Copy, Debug, PartialEq, Eq)]
 pub struct Info {
     pub generation: u64,
     pub sequence: u64,
@@ -32,32 +31,19 @@ pub struct Info {
     pub parameter_bytes: usize,
 }
 
-#[derive(Clone, Copy)]
-pub struct Prepared {
-    pub refusal: Refusal,
-    pub info: Info,
-}
-
 // The refusals after sizing's: the cache's room, then the lowest bad record.
-fn store_refusal(
-    m: &[u8],
-    layout: Layout,
-    starts: &[u64; 1025],
-    s: &[u8],
-    keys: &[u64],
-    size: usize,
-    room: usize,
-) -> Refusal
-    requires { LaidOut m.now layout × (rows_ok m.now ≡ true) × (starts.now ≡ starts_of m.now) × (keys.now ≡ row_keys m.now) }
-    ensures { result ≡ store_refusal m.now s.now size room }
+#[tactic(auto, unfolding(crate::specs::Prepare::store_refusal))]
+fn check_store(library: &Library<'_>, keys: &[u64], size: usize, room: usize) -> Result<(), Refused>
+    requires { (keys.now ≡ row_keys library.now.manifest.bytes.now) }
+    ensures { told result ≡ store_refusal library.now.manifest.bytes.now library.now.segments.now size room }
 {
     if room < size {
-        return Refusal {
-            number: 11,
+        return Err(Refused {
+            number: Number::Room,
             place: 0,
-        };
+        });
     }
-    encoded_rows::records_refusal(m, layout, starts, s, keys)
+    encoded_rows::check_records(library, keys)
 }
 
 // The cache's CRC-32, behind all else.
@@ -69,161 +55,110 @@ pub fn put_crc(cache: &mut [u8], end: usize)
     le::put_u32(cache, end, crc);
 }
 
-fn store_rows(m: &[u8], layout: Layout, starts: &[u64; 1025], s: &[u8], cache: &mut [u8], at: usize)
-    requires { LaidOut m.now layout × (rows_ok m.now ≡ true) × (starts.now ≡ starts_of m.now)
-        × (lowest_bad m.now s.now ≡ rows_of m.now)
-        × (at + rows_of m.now * row_length (dimensions_of m.now) ≤ length cache.old) }
-    ensures { cache.new ≡ paste cache.old at (rows_bytes base_levels midpoints m.now s.now (rows_of m.now)) }
+fn store_rows(library: &Library<'_>, cache: &mut [u8], at: usize)
+    requires { (lowest_bad library.now.manifest.bytes.now library.now.segments.now ≡ rows_of library.now.manifest.bytes.now)
+        × (at + rows_of library.now.manifest.bytes.now * row_length (dimensions_of library.now.manifest.bytes.now) ≤ length cache.old) }
+    ensures { cache.new ≡ paste cache.old at (rows_bytes base_levels midpoints library.now.manifest.bytes.now library.now.segments.now (rows_of library.now.manifest.bytes.now)) }
 {
-    let t = quantization::midpoints_table();
-    let encoder = Encoder::new(&t, quantization::BASE_LEVELS);
-    let row = cache_format::row_length(layout.dimensions);
-    encoded_rows::put_rows(m, layout, starts, &encoder, s, cache, at, row);
+    let table = quantization::midpoints_table();
+    let encoder = Encoder::new(&table, quantization::BASE_LEVELS);
+    let row = cache_format::row_length(library.manifest.layout.dimensions);
+    encoded_rows::put_rows(library, &encoder, cache, at, row);
 }
 
 // Head, rows, CRC-32.
-fn store(
-    m: &[u8],
-    layout: Layout,
-    starts: &[u64; 1025],
-    s: &[u8],
-    platform: &[u8],
-    root: &[u8],
-    cache: &mut [u8],
-    size: usize,
-)
-    requires { LaidOut m.now layout × (rows_ok m.now ≡ true) × (starts.now ≡ starts_of m.now)
-        × (lowest_bad m.now s.now ≡ rows_of m.now)
-        × (size ≡ size_of m.now platform.now root.now) × Lent platform.now root.now m.now size × (size ≤ length cache.old) }
-    ensures { cache.new ≡ cache_of m.now s.now platform.now root.now ++ drop size cache.old }
+fn store(library: &Library<'_>, identity: Identity<'_>, cache: &mut [u8], size: usize)
+    requires same { identity.manifest.now ≡ library.now.manifest.bytes.now }
+    requires rows { (lowest_bad library.now.manifest.bytes.now library.now.segments.now ≡ rows_of library.now.manifest.bytes.now) }
+    requires size { (size ≡ size_of library.now.manifest.bytes.now identity.location.platform.now identity.location.root.now) × (size ≤ length cache.old) }
+    ensures { cache.new ≡ cache_of library.now.manifest.bytes.now library.now.segments.now identity.entry.location.platform.now identity.entry.location.root.now ++ drop size cache.old }
 {
-    let at = 16 + cache_format::identity_length(platform.len(), root.len(), m.len());
-    cache_format::put_head(cache, platform, root, m);
-    store_rows(m, layout, starts, s, cache, at);
+    let at = 16 + identity.len();
+    identity.put_head(cache);
+    store_rows(library, cache, at);
     put_crc(cache, size - 4);
 }
 
-fn info_of(m: &[u8], size: usize) -> Info
-    requires { head_number m.now ≡ 0 }
-    ensures { result ≡ info_of m.now size }
+fn info_of(m: Manifest<'_>, size: usize) -> Info
+    ensures { result ≡ info_of m.entry.bytes.now size }
 {
-    let layout = format::read_layout(m);
     Info {
-        generation: le::u64_at(m, 8),
-        sequence: le::u64_at(m, 16),
+        generation: m.generation(),
+        sequence: m.sequence(),
         cache_bytes: size,
-        code_bytes: layout.rows * layout.dimensions,
-        parameter_bytes: layout.rows * 16,
+        code_bytes: m.layout.rows * m.layout.dimensions,
+        parameter_bytes: m.layout.rows * 16,
     }
 }
 
-fn answer(m: &[u8], size: usize, refusal: Refusal) -> Prepared
-    requires { refusal.number ≡ 0 → head_number m.now ≡ 0 }
-    ensures { result ≡ prepared_by m.now size refusal }
-{
-    if refusal.number == 0 {
-        return Prepared {
-            refusal: refusal,
-            info: info_of(m, size),
-        };
-    }
-    Prepared {
-        refusal: refusal,
-        info: Info {
-            generation: 0,
-            sequence: 0,
-            cache_bytes: 0,
-            code_bytes: 0,
-            parameter_bytes: 0,
-        },
-    }
-}
-
-// After the manifest and sizing: 11 and 5, and then the stores. `keys` are the rows in the order of their records.
+// After the manifest and sizing: 11 and 5, and then the stores.
+#[tactic(auto, using(entries::proofs::Entries::lengths_of, crate::proofs::Stored::may_store, crate::proofs::Stored::cache_stays), unfolding(crate::specs::Prepare::cache_after))]
 fn fill(
-    m: &[u8],
-    s: &[u8],
-    keys: &[u64],
-    platform: &[u8],
-    root: &[u8],
+    accepted: Accepted<'_>,
+    segments: &[u8],
+    identity: Identity<'_>,
     cache: &mut [u8],
     size: usize,
-) -> Refusal
-    requires { (head_number m.now ≡ 0) × (rows_ok m.now ≡ true) × (keys.now ≡ row_keys m.now)
-        × (size ≡ size_of m.now platform.now root.now) × Lent platform.now root.now m.now size }
-    ensures { (result ≡ store_refusal m.now s.now size (length cache.old))
-        × (cache.new ≡ cache_after m.now s.now platform.now root.now result cache.old) }
+) -> Result<(), Refused>
+    requires same { identity.manifest.now ≡ accepted.manifest.bytes.now }
+    requires size { size ≡ size_of accepted.manifest.bytes.now identity.location.platform.now identity.location.root.now }
+    ensures told { told result ≡ store_refusal accepted.entry.manifest.bytes.now segments.now size (length cache.old) }
+    ensures cache_after { cache.new ≡ cache_after accepted.entry.manifest.bytes.now segments.now identity.entry.location.platform.now identity.entry.location.root.now (told result) cache.old }
 {
-    let layout = format::read_layout(m);
-    let starts = segment::starts(m, layout);
-    let refusal = store_refusal(m, layout, &starts, s, keys, size, cache.len());
-    if refusal.number != 0 {
-        return refusal;
-    }
-    store(m, layout, &starts, s, platform, root, cache, size);
-    refusal
+    let starts = segment::starts(accepted.manifest);
+    let library = Library {
+        manifest: accepted.manifest,
+        metric: accepted.manifest.metric(),
+        starts: &starts,
+        segments,
+    };
+    check_store(&library, accepted.keys, size, cache.len())?;
+    store(&library, identity, cache, size);
+    Ok(())
 }
 
 // After the manifest.
+#[tactic(auto, using(crate::proofs::Stored::cache_stays))]
 fn prepare_accepted(
-    m: &[u8],
-    s: &[u8],
-    keys: &[u64],
-    platform: &[u8],
-    root: &[u8],
+    accepted: Accepted<'_>,
+    segments: &[u8],
+    location: Location<'_>,
     options: Options,
     cache: &mut [u8],
-) -> Prepared
-    requires { (head_number m.now ≡ 0) × (rows_ok m.now ≡ true) × (keys.now ≡ row_keys m.now) }
-    ensures { (result ≡ prepared_accepted m.now s.now platform.now root.now options (length cache.old))
-        × (cache.new ≡ cache_after m.now s.now platform.now root.now result.refusal cache.old) }
+) -> Result<Info, Refused>
+    ensures answer { outcome result ≡ prepared_accepted accepted.entry.manifest.bytes.now segments.now location.entry.platform.now location.entry.root.now options (length cache.old) }
+    ensures cache_after { cache.new ≡ cache_after accepted.entry.manifest.bytes.now segments.now location.entry.platform.now location.entry.root.now (told result) cache.old }
 {
-    let number = quantized_cache::sizing(m, platform, root, options);
-    if number != 0 {
-        let early = Refusal {
-            number: number,
-            place: 0,
-        };
-        return answer(m, 0, early);
-    }
-    let size = quantized_cache::size_of(m, platform, root, options);
-    let refusal = fill(m, s, keys, platform, root, cache, size);
-    answer(m, size, refusal)
+    let size = quantized_cache::sizing(accepted.manifest, location, options)?;
+    let identity = Identity {
+        location,
+        manifest: accepted.manifest.bytes,
+    };
+    fill(accepted, segments, identity, cache, size)?;
+    Ok(info_of(accepted.manifest, size))
 }
 
+#[tactic(auto, using(manifest::proofs::Passed::accepted))]
 pub fn prepare(
     manifest: &[u8],
     expected_crc: u32,
     scratch: &mut [u64],
     segments: &[u8],
-    platform: &[u8],
-    root: &[u8],
+    location: Location<'_>,
     options: Options,
     cache: &mut [u8],
-) -> Prepared
-    ensures { (result ≡ prepared manifest.now expected_crc (length scratch.old) segments.now platform.now root.now options (length cache.old))
-        × (cache.new ≡ cache_after manifest.now segments.now platform.now root.now result.refusal cache.old)
+) -> Result<Info, Refused>
+    ensures { (outcome result ≡ prepared manifest.now expected_crc (length scratch.old) segments.now location.entry.platform.now location.entry.root.now options (length cache.old))
+        × (cache.new ≡ cache_after manifest.now segments.now location.entry.platform.now location.entry.root.now (told result) cache.old)
         × (scratch.new ≡ scratch_left manifest.now expected_crc scratch.old) }
 {
-    let number = manifest::accept(manifest, expected_crc, scratch);
-    if number != 0 {
-        let early = Refusal {
-            number: number,
-            place: 0,
-        };
-        return answer(manifest, 0, early);
-    }
-    let layout = format::read_layout(manifest);
-    let rows = layout.rows;
-    let prepared = prepare_accepted(
-        manifest,
-        segments,
-        &scratch[..rows],
-        platform,
-        root,
-        options,
-        cache,
-    );
+    let m = manifest::accept(manifest, expected_crc, scratch)?;
+    let rows = m.layout.rows;
+    let accepted = Accepted {
+        manifest: m,
+        keys: &scratch[..rows],
+    };
+    let prepared = prepare_accepted(accepted, segments, location, options, cache);
     le::clear(scratch);
     prepared
 }

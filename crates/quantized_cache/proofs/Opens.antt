@@ -1,11 +1,16 @@
 -- Where the rows of a cache lie, and what the tests before them say.
-use mathlib.Core.Path.{◌≡◌}
+use mathlib.Core.Path.{◌≡◌, sym}
+use mathlib.Core.Bool.{true, false}
 use mathlib.Core.List.{List}
 use Prim.Native.Nat.{ℕ, suc, ◌+◌, ◌-◌, ◌*◌, ◌≤◌, ◌<◌}
 use native.Mathlib.Nat.{suc-mul, mul-le-mul}
 use native.Mathlib.Omega.{arith}
 use lib.ListN.{length}
-use Rattle.le.proofs.Chain.{held}
+use lib.Dec.{eqb}
+use Rattle.std.specs.Prelude.{Some}
+use Rattle.std.proofs.lemmas.Option.{none-some, same_Some}
+use Rattle.le.proofs.Chain.{by, held}
+use Rattle.config.specs.Told.{found}
 use Rattle.config.specs.declared.Metric.{Metric}
 use Rattle.quantization.specs.View.{row_at, valid_row}
 use Rattle.format.specs.Fields.{dimensions_of, rows_of}
@@ -41,6 +46,14 @@ pub ok_at : (levels : ℕ) (metric : Metric) (rows dimensions : ℕ) (cache : Li
     → valid_row levels metric (row_at dimensions cache at) ≡ cached_ok levels metric rows dimensions cache n
 unfolding cached_ok
 ok_at levels metric rows dimensions cache n e = rw e
+
+-- what the walk over the rows finds: the lowest that is bad, or none
+pub some_bad : (n first : ℕ) {bad : ℕ} → Some bad ≡ found n first → (eqb first n ≡ false) × (bad ≡ first)
+some_bad n first {bad} h =
+    by (eqb first n) (λ e. absurd (none-some bad (sym (rw e at h)))) (λ e. (e, same_Some bad first (rw e at h)))
+
+pub none-bad : (n first : ℕ) → ((x : ℕ) → found n first ≡ Some x → ⊥) → eqb first n ≡ true
+none-bad n first h = by (eqb first n) (λ e. e) (λ e. absurd (h first (rw e)))
 
 -- a cache that passes the tests before the rows has the library's size
 pub record HeadPassed (m : List ℕ) (expected room : ℕ) (cache platform root : List ℕ) (o : Options) : Type 0 where

@@ -23,8 +23,7 @@ use Rattle.cache_format.specs.Cache.{identity, cache_version, row_length}
 use Rattle.cache_format.specs.Open.{cache_head_number as head_number_of}
 use Rattle.cache_format.specs.declared.Options.{Options}
 use Rattle.quantized_cache.specs.Size.{size_of, sizing_of, size_number}
-use Rattle.quantized_cache.specs.Open.{RoomFor, cached_ok, bad_row, content_refusal, open_number, open_refusal, cache_length_ok, state_of, opened_by, opened}
-use Rattle.quantized_cache.specs.declared.Opened.{Opened}
+use Rattle.quantized_cache.specs.Open.{RoomFor, cached_ok, bad_row, content_refusal, open_number, open_refusal, cache_length_ok, state_of, opened_by, opened, Opened}
 use Rattle.quantized_cache.specs.declared.CacheState.{CacheState}
 use Rattle.quantized_cache.proofs.Opens.{head_passed}
 

@@ -1,11 +1,13 @@
 -- Opening a cache (document 01, What each place turns away, opening: "12: length, magic or version wrong; 13: identity differs; 14: row
 -- invalid; 15: cache CRC-32 wrong"; "Opening: 10, 7, 8, 9, 12, 13, 14, 15", after the manifest is tested anew; places: "the row number for
 -- 14", here "otherwise 0").
-use Rattle.std.specs.Prelude.{Bool, cond, ◌&&◌, List, ℕ, ◌+◌, ◌-◌, ◌*◌, ◌≤◌, eqb, leb, length}
+use Rattle.std.specs.Prelude.{Bool, cond, ◌&&◌, List, ℕ, ◌+◌, ◌-◌, ◌*◌, ◌≤◌, eqb, leb, length, Result}
 use Rattle.crc32.specs.Crc.{ends_in_crc}
 use Rattle.config.specs.Refusal.{none, refused, refused_or, refused_at, unless_refused}
+use Rattle.config.specs.Told.{told, granted}
 use Rattle.config.specs.declared.Metric.{Metric}
 use Rattle.config.specs.declared.Refusal.{Refusal}
+use Rattle.config.specs.declared.Refused.{Refused}
 use Rattle.quantization.specs.View.{View, row_at, valid_row}
 use Rattle.quantization.specs.Encoder.{base_levels}
 use Rattle.format.specs.Order.{or_else, first_bad}
@@ -15,7 +17,6 @@ use Rattle.cache_format.specs.Cache.{identity, cache_version, row_length}
 use Rattle.cache_format.specs.Open.{cache_head_number}
 use Rattle.cache_format.specs.declared.Options.{Options}
 use Rattle.quantized_cache.specs.Size.{size_of, size_number}
-use Rattle.quantized_cache.specs.declared.Opened.{Opened}
 use Rattle.quantized_cache.specs.declared.CacheState.{CacheState}
 
 -- readings R2: "A cached row n starts at cache length - 4 - (rows - n) × (dimensions + 16)"
@@ -63,6 +64,15 @@ cache_length_ok state rows dimensions size = eqb size state.cache && leb (rows *
 
 abbrev pub zero_cache_state : CacheState
 zero_cache_state = record { head = zero_head; cache = 0 }
+
+-- a refusal, and what a search compares
+pub record Opened : Type 0 where
+  pub refusal : Refusal
+  pub state : CacheState
+
+-- what the code answers
+abbrev pub open_outcome : Result CacheState Refused → Opened
+open_outcome r = record { refusal = told r; state = granted zero_cache_state r }
 
 unfoldable pub opened_by : List ℕ → List ℕ → Refusal → Opened
 opened_by m cache refusal = record { refusal = refusal; state = unless_refused refusal (state_of m cache) zero_cache_state }

@@ -11,7 +11,7 @@ ghost use Rattle.kept.specs.Seen.{seen};
 ghost use Rattle.ranked.specs.Ends.{Fits, Ends, rest_refusal};
 
 use answers::Answered;
-use format::Layout;
+use format::{Layout, Manifest};
 use kept::Kept;
 
 // Past the length.
@@ -49,7 +49,7 @@ pub fn ranked(
         let v = seen kept m.now cache.now codes.now scales.now norms.now in
         Ends agree v c (rest_refusal agree v c) result (answers_of ids.new distances.new rows.new places.new lengths.new) }
 {
-    let starts = segment::starts(m, layout);
+    let starts = segment::starts(Manifest { bytes: m, layout });
     let n = front::lesser(limit, layout.rows);
     let found = kept::find(
         kept,

@@ -19,13 +19,11 @@ use Rattle.config.specs.declared.Metric.{Metric}
 use Rattle.config.specs.declared.Refusal.{Refusal}
 use Rattle.config.proofs.Refusals.{not_zero, held_number}
 use Rattle.format.specs.Fields.{metric_at, dimensions_of}
-use Rattle.format.specs.Head.{lengths_ok}
-use Rattle.format.specs.Layout.{LaidOut}
 use Rattle.format.specs.declared.Layout.{Layout}
 use Rattle.entries.specs.Plan.{entry_ok}
-use Rattle.entries.proofs.Entries.{lengths_of, entry_keeps}
-use Rattle.segment.specs.Record.{record_at, record_ok, starts_of}
-use Rattle.segment.proofs.Records.{good}
+use Rattle.entries.proofs.Entries.{entry_keeps}
+use Rattle.segment.specs.Record.{record_at, record_ok}
+use Rattle.segment.proofs.RecordLaws.{good}
 use Rattle.math.specs.Distance.{Readable, original}
 use Rattle.search_spec.specs.Lists.{original_at}
 use Rattle.search_spec.specs.Scan.{record_refusal}
@@ -36,9 +34,8 @@ pub number : (x : Float) → finite x ≡ true → T (not (is_nan x))
 number x h = finite_number x (rw h tt)
 
 -- what the functions ask that read an entry or a record
-pub asked : {m a : List ℕ} {l : Layout} {k : Metric} {r : ℕ} → Located m l k a → r < l.rows
-    → LaidOut m l × (k ≡ metric_at m) × (lengths_ok m ≡ true) × (a ≡ starts_of m) × (r < l.rows) × (entry_ok m r ≡ true)
-asked {m} {r = r} L h = (L.placed, L.metric, lengths_of m L.rows, L.starts, h, entry_keeps m r L.rows (rw L.placed.rows at h))
+pub asked : {m n a : List ℕ} {l o : Layout} {k : Metric} {r : ℕ} → Located m l k a → (n ≡ m) × (o ≡ l) → r < l.rows → (r < o.rows) × (entry_ok n r ≡ true)
+asked {m} {r = r} L e h = rw (e.0, e.1) (h, entry_keeps m r L.rows (rw L.placed.rows at h))
 
 -- the coordinates of the record of row r, as they are read: n of them, at a place
 module _ (m s : List ℕ) (r : ℕ) {n at : ℕ} (e : n ≡ dimensions_of m) (f : at ≡ record_at m r + 12) where

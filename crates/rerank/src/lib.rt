@@ -10,7 +10,8 @@ ghost use Rattle.segment.specs.Record.{record_at, record_ok};
 ghost use Rattle.rerank.specs.Rerank.{Located, Asked, all_four, all_finite, keys_set, originals, measure_at, KeysTo, FourIs, MeasureIs, RerankIs};
 
 use config::{Metric, Refusal};
-use format::Layout;
+use format::{Layout, Manifest};
+use segment::Records;
 
 // What a record yields: the order key of its distance, or a refusal.
 #[derive(Clone, Copy)]
@@ -26,6 +27,25 @@ pub struct Reranked {
     pub measured: usize,
 }
 
+// What the records are read by.
+fn records_of<'a>(
+    m: &'a [u8],
+    layout: Layout,
+    metric: Metric,
+    starts: &'a [u64; 1025],
+    s: &'a [u8],
+) -> Records<'a>
+    requires { Located m.now layout metric starts.now }
+    ensures { (result.manifest.bytes.now ≡ m.now) × (result.manifest.layout ≡ layout) × (result.segments.now ≡ s.now) }
+{
+    Records {
+        manifest: Manifest { bytes: m, layout },
+        metric,
+        starts,
+        segments: s,
+    }
+}
+
 // ---- One record.
 
 // Where the coordinates of a row's record begin.
@@ -34,12 +54,14 @@ fn coordinates_at(
     layout: Layout,
     metric: Metric,
     starts: &[u64; 1025],
+    s: &[u8],
     row: usize,
 ) -> usize
     requires { Located m.now layout metric starts.now × (row < layout.rows) }
     ensures { result ≡ record_at m.now row + 12 }
 {
-    segment::record_at(m, layout, starts, row) + 12
+    let records = records_of(m, layout, metric, starts, s);
+    records.record_at(row) + 12
 }
 
 fn refused(number: u32, row: usize) -> Measure
@@ -65,10 +87,11 @@ pub fn measure_one(
     requires { Located m.now layout metric starts.now × Asked m.now metric q.now q_inverse × (row < layout.rows) }
     ensures { result ≡ measure_at m.now s.now q.now row }
 {
-    if !segment::record_holds(m, layout, metric, starts, s, row) {
+    let records = records_of(m, layout, metric, starts, s);
+    if !records.record_holds(row) {
         return refused(23, row);
     }
-    let at = coordinates_at(m, layout, metric, starts, row);
+    let at = coordinates_at(m, layout, metric, starts, s, row);
     let x = math::original_distance(metric, q, q_inverse, s, at);
     if !float::is_finite(x) {
         return refused(24, row);
@@ -91,10 +114,11 @@ fn four_hold(
     requires { Located m.now layout metric starts.now × RowsBelow layout.rows rs.now × (i + 4 ≤ length rs.now) }
     ensures { result ≡ all_four (record_ok m.now s.now) rs.now i }
 {
-    segment::record_holds(m, layout, metric, starts, s, rs[i] as usize)
-        & segment::record_holds(m, layout, metric, starts, s, rs[i + 1] as usize)
-        & segment::record_holds(m, layout, metric, starts, s, rs[i + 2] as usize)
-        & segment::record_holds(m, layout, metric, starts, s, rs[i + 3] as usize)
+    let records = records_of(m, layout, metric, starts, s);
+    records.record_holds(rs[i] as usize)
+        & records.record_holds(rs[i + 1] as usize)
+        & records.record_holds(rs[i + 2] as usize)
+        & records.record_holds(rs[i + 3] as usize)
 }
 
 // Their distances.
@@ -113,10 +137,10 @@ fn distances_four(
         × (i + 4 ≤ length rs.now) × (all_four (record_ok m.now s.now) rs.now i ≡ true) }
     ensures { result ≡ originals m.now s.now q.now rs.now i }
 {
-    let a = coordinates_at(m, layout, metric, starts, rs[i] as usize);
-    let b = coordinates_at(m, layout, metric, starts, rs[i + 1] as usize);
-    let c = coordinates_at(m, layout, metric, starts, rs[i + 2] as usize);
-    let d = coordinates_at(m, layout, metric, starts, rs[i + 3] as usize);
+    let a = coordinates_at(m, layout, metric, starts, s, rs[i] as usize);
+    let b = coordinates_at(m, layout, metric, starts, s, rs[i + 1] as usize);
+    let c = coordinates_at(m, layout, metric, starts, s, rs[i + 2] as usize);
+    let d = coordinates_at(m, layout, metric, starts, s, rs[i + 3] as usize);
     math::original_four(metric, q, q_inverse, s, a, b, c, d)
 }
 

@@ -1,27 +1,46 @@
 -- What building answers, by the numbers of its tests.
-use mathlib.Core.Path.{◌≡◌, sym}
+use mathlib.Core.Path.{◌≡◌, sym, ap}
 use mathlib.Core.Bool.{true}
 use mathlib.Core.List.{List}
 use Prim.Native.Nat.{ℕ, ◌*◌, ◌≤◌}
 use lib.Dec.{leb}
-use borrow.Author.Tests.{leb-true, ne_eqb}
+use lib.IntN.{ℤ}
+use lib.Ieee.{Float}
+use borrow.Author.Tests.{leb-true}
 use Rattle.le.proofs.Chain.{held}
-use Rattle.config.proofs.Refusals.{not_zero, goes_on, stops, none-refused, Plain, plain_or}
-use Rattle.config.specs.Refusal.{refused, refused_or}
+use Rattle.config.proofs.Refusals.{not_zero, goes_on, stops, none-refused, is-other, Plain, plain_or}
+use Rattle.std.specs.Prelude.{Result}
+use Rattle.std.specs.Result.{IsErrAnd}
+use Rattle.std.proofs.lemmas.Result.{err_from_is_err_and}
+use Rattle.config.specs.Told.{number_of, told}
+use Rattle.config.specs.declared.Refused.{Refused}
+use Rattle.config.proofs.Numbers.{some_number}
+use Rattle.config.specs.Refusal.{none, refused, refused_or}
 use Rattle.config.specs.declared.Refusal.{Refusal}
 use Rattle.format.specs.Fields.{dimensions_of, rows_of}
-use Rattle.format.specs.declared.Head.{Head}
 use Rattle.format.proofs.Heads.{both}
 use Rattle.cache_format.specs.Sizing.{codes_ok}
 use Rattle.manifest.specs.Check.{manifest_number}
-use Rattle.resident.specs.Build.{resident_room_ok, resident_room_number, planned_refusal, build_refusal, resident_answer}
+use Rattle.resident.specs.Build.{resident_room_ok, resident_room_number, planned_refusal, build_refusal, codes_upto, scales_upto, norms_upto, codes_after, scales_after, norms_after}
 use Rattle.encoded_rows.specs.Rows.{lowest_bad, bad_record_refusal}
 use Rattle.encoded_rows.proofs.Written.{none-bad, records-plain}
 
--- ---- a refusal's answer has nothing of the head
-pub answered-refused : (h k : Head) (f : Refusal) (codes scales norms : ℕ) → (f.number ≡ 0 → ⊥) → resident_answer h f codes scales norms ≡ resident_answer k f codes scales norms
-unfolding resident_answer
-answered-refused h k f codes scales norms n = rw (ne_eqb f.number 0 n)
+-- ---- on a refusal the slices stay
+pub slices-kept : (levels : ℕ) (mids : List Float) (m s : List ℕ) (r : Refusal) → (r.number ≡ 0 → ⊥) → (codes : List ℤ) (scales : List Float) (norms : List ℤ)
+    → (codes ≡ codes_after levels mids m s r codes) × (scales ≡ scales_after levels mids m s r scales) × (norms ≡ norms_after levels mids m s r norms)
+slices-kept levels mids m s r h codes scales norms = (
+  sym (is-other r (codes_upto levels mids m s (rows_of m) codes) codes h),
+  sym (is-other r (scales_upto levels mids m s (rows_of m) scales) scales h),
+  sym (is-other r (norms_upto levels mids m s (rows_of m) norms) norms h),
+)
+
+-- the same at the exit of a `?`
+pub slices_stay : {A : Type 0} (Q : Refused → Type 0) (r : Result A Refused) → IsErrAnd r Q
+    → (levels : ℕ) (mids : List Float) (m s : List ℕ) (codes : List ℤ) (scales : List Float) (norms : List ℤ)
+    → (codes ≡ codes_after levels mids m s (told r) codes) × (scales ≡ scales_after levels mids m s (told r) scales) × (norms ≡ norms_after levels mids m s (told r) norms)
+slices_stay Q r h levels mids m s codes scales norms =
+    let p = err_from_is_err_and r h in
+    rw p.1 (slices-kept levels mids m s (refused (number_of p.0.number) p.0.place) (some_number p.0.number) codes scales norms)
 
 -- ---- the manifest's number, then the plan's refusal
 module _ (m : List ℕ) (expected room : ℕ) (s : List ℕ) (codes scales norms : ℕ) where
@@ -52,6 +71,12 @@ unfolding planned_refusal
 planned_none m s codes scales norms h =
     let n = none-refused (resident_room_number (rows_of m) (dimensions_of m) codes scales norms) (bad_record_refusal m s) h in
     (none-bad m s n.1, room-held (rows_of m) (dimensions_of m) codes scales norms n.0)
+
+-- the same, as the tests answer it
+pub may_fill : (m s : List ℕ) (codes scales norms : ℕ) → none ≡ planned_refusal m s codes scales norms
+    → (lowest_bad m s ≡ rows_of m) × ((rows_of m * dimensions_of m ≤ codes) × (rows_of m ≤ scales) × (rows_of m ≤ norms))
+may_fill m s codes scales norms e =
+    let p = planned_none m s codes scales norms (sym (ap (λ (r : Refusal). r.number) e)) in (p.0, room-is (rows_of m) (dimensions_of m) codes scales norms p.1)
 
 -- number 0 is no refusal
 pub built-none : (m : List ℕ) (expected room : ℕ) (s : List ℕ) (codes scales norms : ℕ) → Plain (build_refusal m expected room s codes scales norms)

@@ -1,5 +1,5 @@
 -- Where a row's codes lie, and what the encoder asks of a good record.
-use mathlib.Core.Path.{◌≡◌}
+use mathlib.Core.Path.{◌≡◌, refl, ◌∙◌}
 use mathlib.Core.Bool.{true}
 use mathlib.Core.List.{List}
 use Prim.Native.Nat.{ℕ, ◌+◌, ◌-◌, ◌*◌, ◌≤◌, ◌<◌}
@@ -21,7 +21,7 @@ use Rattle.quantization.specs.Encoder.{Levels, encode, midpoints_of}
 use Rattle.quantization.proofs.Encoded.{norm-fits, formula}
 use Rattle.le.proofs.Joined.{part-ends}
 use Rattle.encoded_rows.specs.Rows.{row_of}
-use Rattle.segment.proofs.Records.{Good}
+use Rattle.segment.proofs.RecordLaws.{Good}
 
 -- ---- where a row's codes lie
 pub room : {m : List ℕ} {l : Layout} → LaidOut m l → (n row : ℕ) → row < l.rows → rows_of m * dimensions_of m ≤ n
@@ -33,6 +33,11 @@ room {m} {l} p n row h w =
 
 pub part_length : {A : Type 0} (cs : List A) (at e k : ℕ) → e ≡ at + k → at + k ≤ length cs → length (take (e - at) (drop at cs)) ≡ k
 part_length cs at e k p h = rw (length-take (e - at) (drop at cs), length-drop at cs) (omega arith)
+
+-- the part that is lent for a row's codes
+pub own_part : {A : Type 0} {m : List ℕ} {l : Layout} → LaidOut m l → (cs : List A) (row : ℕ) → row < l.rows → rows_of m * dimensions_of m ≤ length cs
+    → length (take (row * l.dimensions + l.dimensions - row * l.dimensions) (drop (row * l.dimensions) cs)) ≡ dimensions_of m
+own_part {l} p cs row h w = part_length cs (row * l.dimensions) (row * l.dimensions + l.dimensions) l.dimensions refl (room p (length cs) row h w).0 ∙ p.dimensions
 
 pub same_row : (levels : ℕ) (mids : List Float) (m s : List ℕ) (r n from : ℕ) → n ≡ dimensions_of m → from ≡ record_at m r + 12 → encode levels mids (floats_at n s from) ≡ row_of levels mids m s r
 same_row levels mids m s r n from p q = rw (p, q)

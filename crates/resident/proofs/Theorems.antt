@@ -29,7 +29,7 @@ use Rattle.manifest.specs.Check.{manifest_number}
 use Rattle.manifest.proofs.Passed.{other-room, manifest_not_5}
 use Rattle.manifest.proofs.Heads.{accepted-head}
 use Rattle.segment.specs.Check.{library_refusal}
-use Rattle.segment.proofs.Library.{library_accepted, accepted-number}
+use Rattle.segment.proofs.LibraryLaws.{library_accepted, accepted-number}
 use Rattle.le.specs.Le.{joined}
 use Rattle.encoded_rows.specs.Rows.{row_of, lowest_bad, bad_record_refusal}
 use Rattle.encoded_rows.proofs.Written.{all_good, own_codes, rows-valid}

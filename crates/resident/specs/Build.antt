@@ -1,11 +1,13 @@
 -- Resident building (document 01, What each place turns away: "Preparing, building and opening first test the manifest anew", "Resident
 -- building: 8, 11, 5"; "Answer slices, resident slices and the cache are untouched" by a refusal; places: "the row number for .. 5 at a
 -- record .. otherwise 0").
-use Rattle.std.specs.Prelude.{Bool, ◌&&◌, List, [], ◌∷◌, ℕ, ◌*◌, leb, eqb, ℤ, pos, get_or, Float}
+use Rattle.std.specs.Prelude.{Bool, ◌&&◌, List, [], ◌∷◌, ℕ, ◌*◌, leb, eqb, ℤ, pos, get_or, Float, Result}
 use Rattle.std.specs.Float.{nan}
 use Rattle.le.specs.Le.{paste, joined}
 use Rattle.config.specs.Refusal.{refused_or, unless_refused}
+use Rattle.config.specs.Told.{told, granted}
 use Rattle.config.specs.declared.Refusal.{Refusal}
+use Rattle.config.specs.declared.Refused.{Refused}
 use Rattle.format.specs.Order.{unless}
 use Rattle.format.specs.Fields.{dimensions_of, rows_of}
 use Rattle.format.specs.Head.{head_at, zero_head}
@@ -16,7 +18,6 @@ use Rattle.quantization.specs.View.{View}
 use Rattle.codes.specs.Codes.{part}
 use Rattle.encoded_rows.specs.Rows.{row_of, bad_record_refusal}
 use Rattle.resident.specs.declared.ResidentState.{ResidentState}
-use Rattle.resident.specs.declared.Built.{Built}
 
 -- "11 is only for .. resident codes under rows × dimensions, or scales, norms .. under rows", of the lengths lent
 abbrev pub resident_room_ok : ℕ → ℕ → ℕ → ℕ → ℕ → Bool
@@ -40,6 +41,15 @@ build_refusal m expected scratch s codes scales norms = refused_or (manifest_num
 -- readings R2: the accepted head and the lengths as lent; R23: "the state returned by a refused .. building is all zero"
 abbrev pub zero_resident_state : ResidentState
 zero_resident_state = record { head = zero_head; codes = 0; scales = 0; norms = 0 }
+
+-- a refusal, and what a search compares
+pub record Built : Type 0 where
+  pub refusal : Refusal
+  pub state : ResidentState
+
+-- what the code answers
+abbrev pub outcome : Result ResidentState Refused → Built
+outcome r = record { refusal = told r; state = granted zero_resident_state r }
 
 unfoldable pub resident_answer : Head → Refusal → ℕ → ℕ → ℕ → Built
 resident_answer head refusal codes scales norms =

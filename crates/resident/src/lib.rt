@@ -2,20 +2,27 @@
 #![tactic(auto)]
 
 ghost use Rattle.std.specs.Prelude.{◌≡◌, true, ◌*◌, ◌≤◌, length};
+ghost use Rattle.config.specs.Told.{told, numbered};
 ghost use Rattle.format.specs.Fields.{dimensions_of, rows_of};
-ghost use Rattle.format.specs.Head.{head_number};
-ghost use Rattle.format.specs.Layout.{LaidOut};
-ghost use Rattle.entries.specs.Plan.{rows_ok};
 ghost use Rattle.manifest.specs.Scratch.{row_keys};
 ghost use Rattle.manifest.specs.Check.{scratch_left};
-ghost use Rattle.segment.specs.Record.{starts_of};
-ghost use Rattle.quantization.specs.Encoder.{Levels, midpoints_of, base_levels, midpoints};
+ghost use Rattle.quantization.specs.Encoder.{midpoints_of, base_levels, midpoints};
 ghost use Rattle.encoded_rows.specs.Rows.{lowest_bad};
-ghost use Rattle.resident.specs.Build.{resident_room_ok, resident_room_number, resident_lengths_ok, planned_refusal, resident_answer, built_accepted, built, codes_upto, scales_upto, norms_upto, codes_after, scales_after, norms_after};
+ghost use Rattle.resident.specs.Build.{resident_room_ok, resident_room_number, resident_lengths_ok, planned_refusal, outcome, built_accepted, built, codes_upto, scales_upto, norms_upto, codes_after, scales_after, norms_after};
 
-use config::Refusal;
-use format::{Head, Layout};
+use config::{Number, Refused};
+use format::Head;
+use manifest::Accepted;
 use quantization::Encoder;
+use segment::Library;
+
+// The lengths of the three slices that hold the rows.
+#[derive(Clone, Copy, Debug, PartialEq, Eq)]
+pub struct Lengths {
+    pub codes: usize,
+    pub scales: usize,
+    pub norms: usize,
+}
 
 // What was accepted, and the lengths of the slices as lent.
 #[derive(Clone, Copy)]
@@ -26,62 +33,58 @@ pub struct ResidentState {
     pub norms: usize,
 }
 
-// A refusal, or what a search compares.
+// Resident rows, as a search sees them: slices that hold at least as many.
 #[derive(Clone, Copy)]
-pub struct Built {
-    pub refusal: Refusal,
-    pub state: ResidentState,
+pub struct ResidentRows<'a> {
+    pub codes: &'a [i8],
+    pub scales: &'a [f64],
+    pub norms: &'a [i64],
+    pub rows: usize,
+    pub dimensions: usize,
+    pub ghost codes_fit: { rows * dimensions ≤ length codes.now },
+    pub ghost scales_fit: { rows ≤ length scales.now },
+    pub ghost norms_fit: { rows ≤ length norms.now },
 }
 
 // ---- The tests.
 
-// Building's 11, of the three slices.
-fn room_holds(rows: usize, dimensions: usize, codes: usize, scales: usize, norms: usize) -> bool
-    requires { (rows ≤ 1000000) × (dimensions ≤ 4096) }
-    ensures { result ≡ resident_room_ok rows dimensions codes scales norms }
-{
-    (rows * dimensions <= codes) & (rows <= scales) & (rows <= norms)
-}
+impl Lengths {
+    // Building's 11, of the three slices.
+    fn hold(self, rows: usize, dimensions: usize) -> bool
+        requires { (rows ≤ 1000000) × (dimensions ≤ 4096) }
+        ensures { result ≡ resident_room_ok rows dimensions self.codes self.scales self.norms }
+    {
+        (rows * dimensions <= self.codes) & (rows <= self.scales) & (rows <= self.norms)
+    }
 
-// The number of the first test of the sizes that fails, or 0.
-fn room_number(rows: usize, dimensions: usize, codes: usize, scales: usize, norms: usize) -> u32
-    requires { (rows ≤ 1000000) × (dimensions ≤ 4096) }
-    ensures { result ≡ resident_room_number rows dimensions codes scales norms }
-{
-    if !cache_format::codes_hold(rows, dimensions) {
-        return 8;
+    // The tests of the sizes.
+    #[tactic(auto, unfolding(crate::specs::Build::resident_room_number))]
+    fn check(self, rows: usize, dimensions: usize) -> Result<(), Number>
+        requires { (rows ≤ 1000000) × (dimensions ≤ 4096) }
+        ensures { numbered result ≡ resident_room_number rows dimensions self.codes self.scales self.norms }
+    {
+        if !cache_format::codes_hold(rows, dimensions) {
+            return Err(Number::CodeBytes);
+        }
+        if !self.hold(rows, dimensions) {
+            return Err(Number::Room);
+        }
+        Ok(())
     }
-    if !room_holds(rows, dimensions, codes, scales, norms) {
-        return 11;
-    }
-    0
 }
 
 // Of an accepted manifest, its rows in the order of their records, and the lengths of the slices.
-fn plan(
-    m: &[u8],
-    layout: Layout,
-    starts: &[u64; 1025],
-    s: &[u8],
-    keys: &[u64],
-    codes: usize,
-    scales: usize,
-    norms: usize,
-) -> Refusal
-    requires { LaidOut m.now layout × (rows_ok m.now ≡ true) × (starts.now ≡ starts_of m.now) × (keys.now ≡ row_keys m.now) }
-    ensures { result ≡ planned_refusal m.now s.now codes scales norms }
+fn check_build(library: &Library<'_>, keys: &[u64], lengths: Lengths) -> Result<(), Refused>
+    requires { (keys.now ≡ row_keys library.now.manifest.bytes.now) }
+    ensures { told result ≡ planned_refusal library.now.manifest.bytes.now library.now.segments.now lengths.codes lengths.scales lengths.norms }
 {
-    let number = room_number(layout.rows, layout.dimensions, codes, scales, norms);
-    if number != 0 {
-        return Refusal {
-            number: number,
-            place: 0,
-        };
-    }
-    encoded_rows::records_refusal(m, layout, starts, s, keys)
+    let layout = library.manifest.layout;
+    lengths.check(layout.rows, layout.dimensions)?;
+    encoded_rows::check_records(library, keys)
 }
 
 // The lengths that a search compares, against those of the state and what the rows need.
+#[tactic(auto, unfolding(crate::specs::Build::resident_lengths_ok))]
 pub fn lengths_hold(
     state: ResidentState,
     rows: usize,
@@ -93,142 +96,92 @@ pub fn lengths_hold(
     requires { (rows ≤ 1000000) × (dimensions ≤ 4096) }
     ensures { result ≡ resident_lengths_ok state rows dimensions codes scales norms }
 {
+    let lengths = Lengths {
+        codes,
+        scales,
+        norms,
+    };
     (codes == state.codes)
         & (scales == state.scales)
         & (norms == state.norms)
-        & room_holds(rows, dimensions, codes, scales, norms)
+        & lengths.hold(rows, dimensions)
 }
 
 // ---- The rows.
 
+// All rows, of good records.
 fn fill(
-    encoder: &Encoder,
-    m: &[u8],
-    layout: Layout,
-    starts: &[u64; 1025],
-    s: &[u8],
+    library: &Library<'_>,
+    encoder: &Encoder<'_>,
     codes: &mut [i8],
     scales: &mut [f64],
     norms: &mut [i64],
 )
-    requires laid_out { LaidOut m.now layout × (rows_ok m.now ≡ true) × (starts.now ≡ starts_of m.now)
-        × (lowest_bad m.now s.now ≡ rows_of m.now) }
-    requires m_in_bounds { (rows_of m.now * dimensions_of m.now ≤ length codes.old) × (rows_of m.now ≤ length scales.old)
-        × (rows_of m.now ≤ length norms.old) }
-    ensures { let levels = encoder.now.levels in (codes.new ≡ codes_upto levels (midpoints_of levels) m.now s.now (rows_of m.now) codes.old)
-        × (scales.new ≡ scales_upto levels (midpoints_of levels) m.now s.now (rows_of m.now) scales.old)
-        × (norms.new ≡ norms_upto levels (midpoints_of levels) m.now s.now (rows_of m.now) norms.old) }
+    requires good { (lowest_bad library.now.manifest.bytes.now library.now.segments.now ≡ rows_of library.now.manifest.bytes.now) }
+    requires room { (rows_of library.now.manifest.bytes.now * dimensions_of library.now.manifest.bytes.now ≤ length codes.old)
+        × (rows_of library.now.manifest.bytes.now ≤ length scales.old) × (rows_of library.now.manifest.bytes.now ≤ length norms.old) }
+    ensures { let m = library.now.manifest.bytes.now in
+        let s = library.now.segments.now in
+        let levels = encoder.now.levels in
+        (codes.new ≡ codes_upto levels (midpoints_of levels) m s (rows_of m) codes.old)
+        × (scales.new ≡ scales_upto levels (midpoints_of levels) m s (rows_of m) scales.old)
+        × (norms.new ≡ norms_upto levels (midpoints_of levels) m s (rows_of m) norms.old) }
 {
-    let mut row = 0;
-    while row < layout.rows {
-        let from = segment::record_at(m, layout, starts, row) + 12;
-        let at = row * layout.dimensions;
-        let end = at + layout.dimensions;
-        let encoded = encoder.encode_resident(s, from, &mut codes[at..end]);
-        let scale = encoded.scale;
-        let norm = encoded.norm;
-        scales[row] = scale;
-        norms[row] = norm;
-        row += 1;
+    let records = library.records();
+    let dimensions = library.manifest.layout.dimensions;
+    for row in 0..library.manifest.layout.rows {
+        let from = records.record_at(row) + 12;
+        let at = row * dimensions;
+        let end = at + dimensions;
+        let encoded = encoder.encode_resident(library.segments, from, &mut codes[at..end]);
+        scales[row] = encoded.scale;
+        norms[row] = encoded.norm;
     }
-}
-
-// All rows, of an accepted manifest and good records.
-fn store(
-    levels: u32,
-    m: &[u8],
-    layout: Layout,
-    starts: &[u64; 1025],
-    s: &[u8],
-    codes: &mut [i8],
-    scales: &mut [f64],
-    norms: &mut [i64],
-)
-    requires laid_out { LaidOut m.now layout × (rows_ok m.now ≡ true) × (starts.now ≡ starts_of m.now)
-        × (lowest_bad m.now s.now ≡ rows_of m.now)
-        × Levels levels }
-    requires m_in_bounds { (rows_of m.now * dimensions_of m.now ≤ length codes.old) × (rows_of m.now ≤ length scales.old)
-        × (rows_of m.now ≤ length norms.old) }
-    ensures { (codes.new ≡ codes_upto levels (midpoints_of levels) m.now s.now (rows_of m.now) codes.old)
-        × (scales.new ≡ scales_upto levels (midpoints_of levels) m.now s.now (rows_of m.now) scales.old)
-        × (norms.new ≡ norms_upto levels (midpoints_of levels) m.now s.now (rows_of m.now) norms.old) }
-{
-    let t = quantization::midpoints_table();
-    let encoder = Encoder::new(&t, levels);
-    fill(&encoder, m, layout, starts, s, codes, scales, norms);
 }
 
 // ---- Building.
 
-fn answer(head: Head, refusal: Refusal, codes: usize, scales: usize, norms: usize) -> Built
-    ensures { result ≡ resident_answer head refusal codes scales norms }
-{
-    if refusal.number == 0 {
-        return Built {
-            refusal: refusal,
-            state: ResidentState {
-                head: head,
-                codes: codes,
-                scales: scales,
-                norms: norms,
-            },
-        };
-    }
-    Built {
-        refusal: refusal,
-        state: ResidentState {
-            head: format::zero_head(),
-            codes: 0,
-            scales: 0,
-            norms: 0,
-        },
-    }
-}
-
 // After the manifest.
+#[tactic(auto, using(entries::proofs::Entries::lengths_of, crate::proofs::Answers::may_fill))]
 fn build_accepted(
-    m: &[u8],
-    s: &[u8],
-    keys: &[u64],
+    accepted: Accepted<'_>,
+    segments: &[u8],
     codes: &mut [i8],
     scales: &mut [f64],
     norms: &mut [i64],
-) -> Built
-    requires { (head_number m.now ≡ 0) × (rows_ok m.now ≡ true) × (keys.now ≡ row_keys m.now) }
-    ensures { (result ≡ built_accepted m.now s.now (length codes.old) (length scales.old) (length norms.old))
-        × (codes.new ≡ codes_after base_levels midpoints m.now s.now result.refusal codes.old)
-        × (scales.new ≡ scales_after base_levels midpoints m.now s.now result.refusal scales.old)
-        × (norms.new ≡ norms_after base_levels midpoints m.now s.now result.refusal norms.old) }
+) -> Result<ResidentState, Refused>
+    ensures { let m = accepted.entry.manifest.bytes.now in
+        let s = segments.now in
+        (outcome result ≡ built_accepted m s (length codes.old) (length scales.old) (length norms.old))
+        × (codes.new ≡ codes_after base_levels midpoints m s (told result) codes.old)
+        × (scales.new ≡ scales_after base_levels midpoints m s (told result) scales.old)
+        × (norms.new ≡ norms_after base_levels midpoints m s (told result) norms.old) }
 {
-    let head = format::read_head(m);
-    let layout = format::read_layout(m);
-    let starts = segment::starts(m, layout);
-    let refusal = plan(
-        m,
-        layout,
-        &starts,
-        s,
-        keys,
-        codes.len(),
-        scales.len(),
-        norms.len(),
-    );
-    if refusal.number != 0 {
-        return answer(head, refusal, codes.len(), scales.len(), norms.len());
-    }
-    store(
-        quantization::BASE_LEVELS,
-        m,
-        layout,
-        &starts,
-        s,
-        codes,
-        scales,
-        norms,
-    );
-    answer(head, refusal, codes.len(), scales.len(), norms.len())
+    let starts = segment::starts(accepted.manifest);
+    let library = Library {
+        manifest: accepted.manifest,
+        metric: accepted.manifest.metric(),
+        starts: &starts,
+        segments,
+    };
+    let lengths = Lengths {
+        codes: codes.len(),
+        scales: scales.len(),
+        norms: norms.len(),
+    };
+    check_build(&library, accepted.keys, lengths)?;
+    let table = quantization::midpoints_table();
+    let encoder = Encoder::new(&table, quantization::BASE_LEVELS);
+    fill(&library, &encoder, codes, scales, norms);
+    Ok(ResidentState {
+        head: accepted.manifest.head(),
+        codes: lengths.codes,
+        scales: lengths.scales,
+        norms: lengths.norms,
+    })
 }
 
+#[tactic(auto, using(manifest::proofs::Passed::accepted))]
 pub fn build(
     manifest: &[u8],
     expected_crc: u32,
@@ -237,25 +190,20 @@ pub fn build(
     codes: &mut [i8],
     scales: &mut [f64],
     norms: &mut [i64],
-) -> Built
-    ensures { (result ≡ built manifest.now expected_crc (length scratch.old) segments.now (length codes.old) (length scales.old) (length norms.old))
+) -> Result<ResidentState, Refused>
+    ensures { (outcome result ≡ built manifest.now expected_crc (length scratch.old) segments.now (length codes.old) (length scales.old) (length norms.old))
         × (scratch.new ≡ scratch_left manifest.now expected_crc scratch.old)
-        × (codes.new ≡ codes_after base_levels midpoints manifest.now segments.now result.refusal codes.old)
-        × (scales.new ≡ scales_after base_levels midpoints manifest.now segments.now result.refusal scales.old)
-        × (norms.new ≡ norms_after base_levels midpoints manifest.now segments.now result.refusal norms.old) }
+        × (codes.new ≡ codes_after base_levels midpoints manifest.now segments.now (told result) codes.old)
+        × (scales.new ≡ scales_after base_levels midpoints manifest.now segments.now (told result) scales.old)
+        × (norms.new ≡ norms_after base_levels midpoints manifest.now segments.now (told result) norms.old) }
 {
-    let number = manifest::accept(manifest, expected_crc, scratch);
-    if number != 0 {
-        let early = Refusal {
-            number: number,
-            place: 0,
-        };
-        let head = format::zero_head();
-        return answer(head, early, codes.len(), scales.len(), norms.len());
-    }
-    let layout = format::read_layout(manifest);
-    let rows = layout.rows;
-    let built = build_accepted(manifest, segments, &scratch[..rows], codes, scales, norms);
+    let m = manifest::accept(manifest, expected_crc, scratch)?;
+    let rows = m.layout.rows;
+    let accepted = Accepted {
+        manifest: m,
+        keys: &scratch[..rows],
+    };
+    let built = build_accepted(accepted, segments, codes, scales, norms);
     le::clear(scratch);
     built
 }

@@ -36,6 +36,7 @@ use codes::Sums;
 use config::{Metric, Refusal};
 use format::Layout;
 use quantization::Row;
+use quantized_cache::CachedRows;
 use row::{Query, RowAnswer};
 
 // A refusal, or how many candidates are kept, of how many eligible rows.
@@ -132,11 +133,16 @@ fn turned_away(metric: Metric, row: Row, sums: Sums, query: Row, bound: f64, t: 
 // ---- The rows of a cache.
 
 // Where a row starts.
-fn start(length: usize, rows: usize, row: usize, n: usize) -> usize
-    requires { (row ≤ rows) × (rows ≤ 1000000) × (n ≤ 4096) × RoomFor length rows n }
-    ensures { result ≡ row_start length rows n row }
+fn start(cache: &[u8], rows: usize, row: usize, n: usize) -> usize
+    requires { (row ≤ rows) × (rows ≤ 1000000) × (n ≤ 4096) × RoomFor (length cache.now) rows n }
+    ensures { result ≡ row_start (length cache.now) rows n row }
 {
-    quantized_cache::rows_at(length, rows - row, n)
+    let kept = CachedRows {
+        cache,
+        rows,
+        dimensions: n,
+    };
+    kept.start(row)
 }
 
 fn row_at(cache: &[u8], at: usize) -> Row
@@ -190,7 +196,7 @@ fn ahead_cached(
 {
     let bound = float::value_of_key(top);
     let stride = cache_format::row_length(q.len());
-    let mut at = start(cache.len(), rows, row, q.len());
+    let mut at = start(cache, rows, row, q.len());
     let mut i = row;
     while i < to {
         let sums = codes::row_sums(levels as u8, &cache[at + 16..at + 16 + q.len()], q);
@@ -230,7 +236,7 @@ fn next_cached(
     if eligible {
         let a = ahead_cached(levels, metric, cache, rows, q, query, row, to, top, t);
         if a.row < to {
-            let r = row_at(cache, start(cache.len(), rows, a.row, q.len()));
+            let r = row_at(cache, start(cache, rows, a.row, q.len()));
             return Next {
                 row: a.row,
                 answer: row::summed_row(
@@ -248,7 +254,7 @@ fn next_cached(
             answer: RowAnswer::PassedOver,
         };
     }
-    let at = start(cache.len(), rows, row, q.len());
+    let at = start(cache, rows, row, q.len());
     let valid = row::holds(levels, metric, cache, at, q.len());
     Next {
         row: row,

@@ -31,7 +31,7 @@ use Rattle.format.proofs.Refusals.{each_none}
 use Rattle.entries.specs.Plan.{bad_entry, rows_ok}
 use Rattle.entries.proofs.Entries.{ids_rise}
 use Rattle.segment.specs.Record.{record_at, vector_of, record_ok}
-use Rattle.segment.proofs.Records.{good}
+use Rattle.segment.proofs.RecordLaws.{good}
 use Rattle.math.proofs.Distances.{original_in}
 use Rattle.row.specs.Distance.{approximate}
 use Rattle.row.specs.Answer.{refusal_of, measured, answer, row_answer}

@@ -1,4 +1,5 @@
 -- Laws of records and segments.
 pub mod Places
-pub mod Records
-pub mod Library
+pub mod RecordLaws
+pub mod LibraryLaws
+pub mod Found

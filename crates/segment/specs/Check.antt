@@ -8,8 +8,7 @@ use Rattle.config.specs.declared.Refusal.{Refusal}
 use Rattle.format.specs.Fields.{segments_of, length_of, crc_of}
 use Rattle.format.specs.Order.{first_bad, first_refusal}
 use Rattle.manifest.specs.Tiling.{in_segment}
-use Rattle.manifest.specs.Check.{manifest_number, checked_by}
-use Rattle.manifest.specs.declared.Checked.{Checked}
+use Rattle.manifest.specs.Check.{Checked, manifest_number, checked_by}
 use Rattle.segment.specs.Record.{start_of, record_ok}
 
 -- the first of these rows, by its place among them, whose record fails; their count where none does

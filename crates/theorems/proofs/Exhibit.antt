@@ -43,7 +43,7 @@ use Rattle.segment.specs.Record.{start_of, record_at, parts_ok, record_ok}
 use Rattle.segment.specs.Check.{segment_crc_ok, segment_records_refusal, segments_refusal, library_refusal}
 use Rattle.quantized_cache.specs.Size.{size_of, sizing_of}
 use Rattle.quantized_cache.specs.Open.{state_of}
-use Rattle.quantized_cache.specs.declared.Opened.{Opened}
+use Rattle.quantized_cache.specs.Open.{Opened}
 use Rattle.quantized_cache.specs.declared.CacheState.{CacheState}
 use Rattle.prepare.specs.Prepare.{prepare_refusal, cache_after}
 use Rattle.prepare.proofs.Accepted.{accepted-prepared}

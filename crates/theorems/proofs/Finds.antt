@@ -30,8 +30,8 @@ use Rattle.format.proofs.Refusals.{all_none}
 use Rattle.entries.specs.Plan.{entry_ok, bad_entry}
 use Rattle.entries.proofs.Entries.{lengths_of, entry_keeps}
 use Rattle.segment.specs.Record.{record_at, vector_of}
-use Rattle.segment.proofs.Library.{Accepted as Library, library_accepted}
-use Rattle.segment.proofs.Records.{good}
+use Rattle.segment.proofs.LibraryLaws.{Accepted as Library, library_accepted}
+use Rattle.segment.proofs.RecordLaws.{good}
 use Rattle.math.proofs.Distances.{original_in}
 use Rattle.row.proofs.Finite.{encoded-none}
 use Rattle.quantized_cache.specs.declared.CacheState.{CacheState}

@@ -16,10 +16,10 @@ use Rattle.format.proofs.Same.{Unchanged as Same, same-head_law, same_none}
 use Rattle.entries.proofs.Entries.{entered, entry_keeps, lengths_of, ids_rise}
 use Rattle.manifest.proofs.Heads.{checked-head}
 use Rattle.segment.proofs.Places.{record_within}
-use Rattle.segment.proofs.Library.{Accepted as Passed, library_accepted, accepted_library, library_head}
+use Rattle.segment.proofs.LibraryLaws.{Accepted as Passed, library_accepted, accepted_library, library_head}
 use Rattle.quantized_cache.specs.Open.{state_of, opened_by, opened}
 use Rattle.quantized_cache.specs.declared.CacheState.{CacheState}
-use Rattle.quantized_cache.specs.declared.Opened.{Opened}
+use Rattle.quantized_cache.specs.Open.{Opened}
 use Rattle.quantized_cache.proofs.Succeeds.{opened-head}
 use Rattle.prepare.proofs.Opened.{prepared-opened}
 use Rattle.prepare.proofs.Accepted.{accepted-prepared, never_5 as never_5_prepared}

@@ -14,7 +14,7 @@ use Rattle.format.specs.Head.{head_at}
 use Rattle.quantized_cache.specs.Size.{size_of}
 use Rattle.quantized_cache.specs.Open.{cached_at, opened_by}
 use Rattle.quantized_cache.specs.declared.CacheState.{CacheState}
-use Rattle.quantized_cache.specs.declared.Opened.{Opened}
+use Rattle.quantized_cache.specs.Open.{Opened}
 use Rattle.quantized_cache.proofs.Succeeds.{opened-is, opened_length}
 use Rattle.prepare.specs.Prepare.{prepare_refusal, cache_after}
 use Rattle.prepare.proofs.Opened.{prepared_slice, prepared-rows}

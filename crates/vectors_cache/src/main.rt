@@ -5,11 +5,10 @@
 
 ghost use Rattle.std.specs.Prelude.{◌≤◌};
 
-use cache_format::Options;
-use config::Refusal;
+use cache_format::{Location, Options};
+use config::Refused;
 use format::Head;
-use prepare::Prepared;
-use resident::Built;
+use prepare::Info;
 use std::alloc::Global;
 use std::io::{BufRead, BufReader, BufWriter, Read, Result, Write};
 
@@ -26,8 +25,12 @@ fn print_kept<W: Write>(out: &mut W, kept: bool) -> Result<()> {
     }
 }
 
-fn print_refusal<W: Write>(out: &mut W, e: Refusal) -> Result<()> {
-    write!(out, "{} {} ", e.number, e.place)
+// Number and place; 0 and 0 where nothing is refused.
+fn print_refusal<T, W: Write>(out: &mut W, answer: &std::result::Result<T, Refused>) -> Result<()> {
+    match answer {
+        Ok(_) => write!(out, "0 0 "),
+        Err(refused) => write!(out, "{} {} ", refused.number.number(), refused.place),
+    }
 }
 
 // ---- What is lent, and whether it is still so from an element on.
@@ -98,30 +101,12 @@ impl Element for i64 {
     }
 }
 
-// ---- The head of a state.
+// ---- The head of a state; `-` on a refusal.
 
-// Whether every field is 0, the model's bytes with them.
-fn no_head(h: Head) -> bool {
-    let c = h.config;
-    let metric = c.metric;
-    (h.length == 0)
-        & (h.generation == 0)
-        & (h.sequence == 0)
-        & (c.dimensions == 0)
-        & (c.m == 0)
-        & (c.ef_construction == 0)
-        & (c.seed == 0)
-        & (metric.byte() == 0)
-        & (h.model_length == 0)
-        & (h.segments == 0)
-        & (h.rows == 0)
-        & h.model.iter().all(|b| *b == 0)
-}
-
-fn print_head<W: Write>(out: &mut W, h: Head) -> Result<()> {
-    if no_head(h) {
+fn print_head<W: Write>(out: &mut W, head: Option<Head>) -> Result<()> {
+    let Some(h) = head else {
         return write!(out, "- ");
-    }
+    };
     let c = h.config;
     let metric = c.metric;
     write!(
@@ -155,19 +140,19 @@ struct Case {
     cache: Vec<u8>,
 }
 
+fn location(c: &Case) -> Location<'_> {
+    Location {
+        platform: &c.platform,
+        root: &c.root,
+    }
+}
+
 fn size<W: Write>(out: &mut W, c: &Case, scratch: &mut [u64]) -> Result<()> {
     write!(out, "size ")?;
     fill(scratch);
-    let r = quantized_cache::size(
-        &c.manifest,
-        c.expected_crc,
-        scratch,
-        &c.platform,
-        &c.root,
-        c.options,
-    );
-    print_refusal(out, r.refusal)?;
-    write!(out, "{} ", r.size)?;
+    let r = quantized_cache::size(&c.manifest, c.expected_crc, scratch, location(c), c.options);
+    print_refusal(out, &r)?;
+    write!(out, "{} ", r.unwrap_or(0))?;
     print_scratch(out, scratch)
 }
 
@@ -179,14 +164,20 @@ fn open<W: Write>(out: &mut W, c: &Case, scratch: &mut [u64], cache: &[u8]) -> R
         c.expected_crc,
         scratch,
         cache,
-        &c.platform,
-        &c.root,
+        location(c),
         c.options,
     );
-    let state = r.state;
-    print_refusal(out, r.refusal)?;
-    write!(out, "{} ", state.cache)?;
-    print_head(out, state.head)?;
+    print_refusal(out, &r)?;
+    match r {
+        Ok(state) => {
+            write!(out, "{} ", state.cache)?;
+            print_head(out, Some(state.head))?;
+        }
+        Err(_) => {
+            write!(out, "0 ")?;
+            print_head(out, None)?;
+        }
+    }
     print_scratch(out, scratch)
 }
 
@@ -205,9 +196,7 @@ fn print_cache<W: Write>(out: &mut W, s: &[u8], n: usize) -> Result<()> {
     )
 }
 
-fn print_prepared<W: Write>(out: &mut W, r: Prepared, cache: &[u8]) -> Result<()> {
-    let info = r.info;
-    print_refusal(out, r.refusal)?;
+fn print_info<W: Write>(out: &mut W, info: Info, cache: &[u8]) -> Result<()> {
     write!(
         out,
         "{} {} {} {} {} ",
@@ -233,14 +222,21 @@ fn prepare<W: Write>(
         c.expected_crc,
         scratch,
         &c.segments,
-        &c.platform,
-        &c.root,
+        location(c),
         c.options,
         cache,
     );
-    print_prepared(out, r, cache)?;
+    print_refusal(out, &r)?;
+    let info = r.unwrap_or(Info {
+        generation: 0,
+        sequence: 0,
+        cache_bytes: 0,
+        code_bytes: 0,
+        parameter_bytes: 0,
+    });
+    print_info(out, info, cache)?;
     print_scratch(out, scratch)?;
-    Ok(r.info.cache_bytes)
+    Ok(info.cache_bytes)
 }
 
 // The whole of a small cache.
@@ -285,19 +281,23 @@ fn build<W: Write>(
         scales,
         norms,
     );
-    let state = r.state;
-    let head = state.head;
-    print_refusal(out, r.refusal)?;
-    write!(out, "{} {} {} ", state.codes, state.scales, state.norms)?;
-    print_head(out, head)?;
-    print_part(
-        out,
-        alloc,
-        codes,
-        head.rows.saturating_mul(head.config.dimensions),
-    )?;
-    print_part(out, alloc, scales, head.rows)?;
-    print_part(out, alloc, norms, head.rows)?;
+    print_refusal(out, &r)?;
+    let (rows, dimensions) = match r {
+        Ok(state) => {
+            let head = state.head;
+            write!(out, "{} {} {} ", state.codes, state.scales, state.norms)?;
+            print_head(out, Some(head))?;
+            (head.rows, head.config.dimensions)
+        }
+        Err(_) => {
+            write!(out, "0 0 0 ")?;
+            print_head(out, None)?;
+            (0, 0)
+        }
+    };
+    print_part(out, alloc, codes, rows.saturating_mul(dimensions))?;
+    print_part(out, alloc, scales, rows)?;
+    print_part(out, alloc, norms, rows)?;
     print_scratch(out, scratch)
 }
 

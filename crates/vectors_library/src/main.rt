@@ -2,7 +2,7 @@
 // the lengths of name, manifest and segments (u32 each), then these three. make/cases.py says what is printed of each.
 #![tactic(auto)]
 
-use config::Refusal;
+use config::Refused;
 use format::Head;
 use std::alloc::Global;
 use std::fmt;
@@ -59,34 +59,18 @@ fn print_head<W: Write>(out: &mut W, h: Head) -> Result<()> {
     write!(out, "{} {} ", h.segments, h.rows)
 }
 
-// Whether every field of a refusal's head is 0: `-`, or `head` where it is not so.
-fn print_no_head<W: Write>(out: &mut W, h: Head) -> Result<()> {
-    let c = h.config;
-    let metric = c.metric;
-    let zero = (h.length == 0)
-        & (h.generation == 0)
-        & (h.sequence == 0)
-        & (c.dimensions == 0)
-        & (c.m == 0)
-        & (c.ef_construction == 0)
-        & (c.seed == 0)
-        & (metric.byte() == 0)
-        & (h.model_length == 0)
-        & (h.segments == 0)
-        & (h.rows == 0);
-    if zero & h.model.iter().all(|b| *b == 0) {
-        write!(out, "- ")
-    } else {
-        write!(out, "head ")
-    }
-}
-
-fn print_answer<W: Write>(out: &mut W, e: Refusal, h: Head, scratch: &[u64]) -> Result<()> {
-    write!(out, "{} {} ", e.number, e.place)?;
-    if e.number == 0 {
-        print_head(out, h)?;
-    } else {
-        print_no_head(out, h)?;
+// Number and place, 0 and 0 where nothing is refused, then the head, or `-` on a refusal.
+fn print_answer<W: Write>(
+    out: &mut W,
+    answer: std::result::Result<Head, Refused>,
+    scratch: &[u64],
+) -> Result<()> {
+    match answer {
+        Ok(head) => {
+            write!(out, "0 0 ")?;
+            print_head(out, head)?;
+        }
+        Err(refused) => write!(out, "{} {} - ", refused.number.number(), refused.place)?,
     }
     write!(out, "{} ", state(scratch))
 }
@@ -110,10 +94,10 @@ fn case<R: Read, W: Write>(input: &mut R, out: &mut W, alloc: Global, place: u32
     write!(out, "{place} ")?;
     fill(&mut scratch);
     let r = manifest::check(&manifest, expected_crc, &mut scratch);
-    print_answer(out, r.refusal, r.head, &scratch)?;
+    print_answer(out, r, &scratch)?;
     fill(&mut scratch);
     let r = segment::check(&manifest, expected_crc, &mut scratch, &segments);
-    print_answer(out, r.refusal, r.head, &scratch)?;
+    print_answer(out, r, &scratch)?;
     out.write_all(&name)?;
     writeln!(out)
 }

@@ -4,8 +4,8 @@
 
 ghost use Rattle.std.specs.Prelude.{◌≤◌};
 
-use cache_format::Options;
-use config::Refusal;
+use cache_format::{Location, Options};
+use config::{Refusal, Refused};
 use quantized_cache::CacheState;
 use resident::ResidentState;
 use search_spec::{Agreed, Place, Report, Searched};
@@ -15,6 +15,17 @@ use std::num::f32_from_bits_with_nan;
 
 fn print_refusal<W: Write>(out: &mut W, e: Refusal) -> Result<()> {
     write!(out, "{} {} ", e.number, e.place)
+}
+
+// What a check, an opening or a building refuses; 0 at 0 is nothing.
+fn refusal_of<T>(answer: &std::result::Result<T, Refused>) -> Refusal {
+    match answer {
+        Ok(_) => Refusal {
+            number: 0,
+            place: 0,
+        },
+        Err(refused) => Refusal::from(*refused),
+    }
 }
 
 // So many bytes of the input.
@@ -566,17 +577,20 @@ fn read_library<R: Read, W: Write>(input: &mut R, out: &mut W, alloc: Global) ->
     let mut scratch = vec![in alloc; 0; 512]?;
 
     let r = segment::check(&manifest, expected_crc, &mut scratch, &segments);
-    print_refusal(out, r.refusal)?;
+    print_refusal(out, refusal_of(&r))?;
+    let location = Location {
+        platform: &platform,
+        root: &root,
+    };
     let opened = quantized_cache::open(
         &manifest,
         expected_crc,
         &mut scratch,
         &cache,
-        &platform,
-        &root,
+        location,
         default_options(),
     );
-    print_refusal(out, opened.refusal)?;
+    print_refusal(out, refusal_of(&opened))?;
     let built = resident::build(
         &manifest,
         expected_crc,
@@ -586,7 +600,7 @@ fn read_library<R: Read, W: Write>(input: &mut R, out: &mut W, alloc: Global) ->
         &mut scales,
         &mut norms,
     );
-    print_refusal(out, built.refusal)?;
+    print_refusal(out, refusal_of(&built))?;
     writeln!(out)?;
     add_spare(&mut manifest, 0)?;
     add_spare(&mut segments, 0)?;
@@ -601,8 +615,16 @@ fn read_library<R: Read, W: Write>(input: &mut R, out: &mut W, alloc: Global) ->
         codes,
         scales,
         norms,
-        opened: opened.state,
-        built: built.state,
+        opened: opened.unwrap_or(CacheState {
+            head: format::zero_head(),
+            cache: 0,
+        }),
+        built: built.unwrap_or(ResidentState {
+            head: format::zero_head(),
+            codes: 0,
+            scales: 0,
+            norms: 0,
+        }),
     })
 }
 

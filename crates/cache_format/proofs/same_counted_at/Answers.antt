@@ -10,4 +10,4 @@ returns c =
     let cache = c.args.cache.now in
     let at = c.args.at in
     let l = length-drop at cache in
-    rw (same-counted (drop at cache) c.args.s.now (drop_bytes at cache (all-bytes cache (λ k. (c.shared_slice_known-1.given k).fits))) (omega arith) c.requires.1, drop-drop 4 at cache, c.same_bytes_at.ensures, c.u32_at.ensures)
+    rw (same-counted (drop at cache) c.args.s.now (drop_bytes at cache (all-bytes cache (λ k. (c.type_inv.cache k).fits))) (omega arith) c.requires.1, drop-drop 4 at cache, c.same_bytes_at.ensures, c.u32_at.ensures)

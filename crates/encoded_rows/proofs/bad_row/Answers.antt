@@ -1,28 +1,30 @@
-use borrow.Author.Rules.{rules}
-use Rattle.format.specs.Fields.{rows_of}
-use Rattle.format.proofs.First.{reached_start, reached_turn, reached_stop, reached_end}
-use Rattle.entries.proofs.Entries.{lengths_of, entry_keeps}
-use Rattle.segment.specs.Record.{record_ok}
+use Prim.Native.Nat.{◌≤◌}
+use native.Mathlib.Omega.{arith}
+use Rattle.format.proofs.First.{reached_turn, one_found, none_found}
+use Rattle.entries.proofs.Entries.{entry_keeps}
 use Rattle.encoded_rows.proofs.bad_row.Goals as goal
-
-pub loop-row-init : goal.loop-row-init
-loop-row-init c = (search rules, reached_start (record_ok c.args.m.now c.args.s.now) (rows_of c.args.m.now))
 
 pub record_holds-requires : goal.record_holds-requires
 record_holds-requires c =
-    let m = c.args.m.now in
-    let h = rw c.requires.0.rows at c.loop-row-test.true in
-    (c.requires.0, c.requires.1, lengths_of m c.requires.2, c.requires.3, c.loop-row-test.true, entry_keeps m c.loop-row.row c.requires.2 h)
+    let x = c.args.library.now in
+    let e = c.records-records.ensures in
+    let h = c.loop-row-test.true in
+    rw (e.1, e.0) (h, entry_keeps x.manifest.bytes.now c.loop-row.row x.rows (rw x.manifest.laid_out.rows at h))
 
 pub returns-then-not-record_holds : goal.returns-then-not-record_holds
 returns-then-not-record_holds c =
-    let L = c.loop-row in
-    reached_stop (rw c.requires.0.rows at c.loop-row-test.true) (rw c.record_holds.ensures at c.if-not-record_holds.true) L.invariant.1
+    let e = c.records-records.ensures in
+    let b = rw (e.0, e.2) at c.record_holds.ensures in
+    one_found (rw c.args.library.now.manifest.laid_out.rows at c.loop-row-test.true) (rw b at c.if-not-record_holds.true) c.loop-row.invariant
 
 pub loop-row-preserved : goal.loop-row-preserved
 loop-row-preserved c =
-    let L = c.loop-row in
-    (search rules, reached_turn (rw c.requires.0.rows at c.loop-row-test.true) (rw c.record_holds.ensures at c.if-not-record_holds.false) L.invariant.1)
+    let e = c.records-records.ensures in
+    let b = rw (e.0, e.2) at c.record_holds.ensures in
+    reached_turn (rw c.args.library.now.manifest.laid_out.rows at c.loop-row-test.true) (rw b at c.if-not-record_holds.false) c.loop-row.invariant
 
 pub returns : goal.returns
-returns c = reached_end (rw c.requires.0.rows at c.loop-row-test.false) c.loop-row.invariant.1
+returns c =
+    let x = c.args.library.now.manifest in
+    let end : c.loop-row.row ≤ x.layout.rows = omega arith in
+    none_found (rw x.laid_out.rows at c.loop-row-test.false) (rw x.laid_out.rows at end) c.loop-row.invariant

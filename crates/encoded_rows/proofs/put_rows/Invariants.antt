@@ -1,5 +1,5 @@
 use mathlib.Core.Path.{◌≡◌}
-use Prim.Native.Nat.{◌+◌, ◌-◌, ◌*◌, ◌≤◌}
+use Prim.Native.Nat.{◌+◌, ◌*◌}
 use lib.ListN.{length}
 use Rattle.le.specs.Le.{paste}
 use Rattle.quantization.specs.Encoder.{midpoints_of}
@@ -8,7 +8,9 @@ use Rattle.encoded_rows.proofs.put_rows.Given as goal
 
 abbrev pub invariant-loop-row : goal.invariant-loop-row
 invariant-loop-row l =
-    (l.row ≤ l.layout.rows) × (l.from ≡ l.at + l.row * l.size) × (length l.cache ≡ length l.initial.cache) × (l.cache ≡ paste l.initial.cache l.at (rows_bytes l.encoder.levels (midpoints_of l.encoder.levels) l.m l.s l.row))
-
-abbrev pub decreases-loop-row : goal.decreases-loop-row
-decreases-loop-row l = l.layout.rows - l.row
+    let e = l.encoder.levels in
+    record {
+      from : l.from ≡ l.at + l.row * l.size;
+      length : length l.cache ≡ length l.initial.cache;
+      written : l.cache ≡ paste l.initial.cache l.at (rows_bytes e (midpoints_of e) l.library.manifest.bytes.now l.library.segments.now l.row);
+    }

@@ -10,13 +10,10 @@ pub returns-then-row-eq0 : goal.returns-then-row-eq0
 unfolding rises
 returns-then-row-eq0 c = rw c.if-row-eq0.true
 
-pub returns : goal.returns
+pub returns-else-row-eq0 : goal.returns-else-row-eq0
 unfolding rises
-returns c =
+returns-else-row-eq0 c =
     let a = c.args in
     let ne = c.if-row-eq0.false in
     let e : a.row ≡ suc (a.row - 1) = omega (arith, ne) in
-    rw (c.read_entry-after.ensures, c.read_entry-before.ensures) (ap (λ r. ltb (id_at a.m.now (a.row - 1)) (id_at a.m.now r)) e ∙ ap (rises a.m.now) (sym e))
-
-pub read_entry-before-requires : goal.read_entry-before-requires
-read_entry-before-requires c = (c.requires.0, omega arith)
+    rw (c.read_entry-else-row-eq0.ensures, c.read_entry.ensures) (ap (λ r. ltb (id_at a.m.bytes.now (a.row - 1)) (id_at a.m.bytes.now r)) e ∙ ap (rises a.m.bytes.now) (sym e))

@@ -22,17 +22,3 @@ returns c =
       few = h.few;
       most = h.most;
     }
-
-pub count_at-segments-requires : goal.count_at-segments-requires
-unfolding length_of_model
-count_at-segments-requires c = let h = bounds c.args.m.now c.requires in omega (arith, h.end, c.count_at-model.ensures.0)
-
-pub u64_at-requires : goal.u64_at-requires
-unfolding length_of_model
-u64_at-requires c = let h = bounds c.args.m.now c.requires in omega (arith, h.end, c.count_at-model.ensures.0)
-
-pub count_at-model-requires : goal.count_at-model-requires
-count_at-model-requires c = let h = bounds c.args.m.now c.requires in omega (arith, h.long)
-
-pub count_at-requires : goal.count_at-requires
-count_at-requires c = let h = bounds c.args.m.now c.requires in omega (arith, h.long)

@@ -1,33 +1,31 @@
-use mathlib.Core.Path.{ap, ◌∙◌}
+use mathlib.Core.Path.{sym, ap, ◌∙◌}
 use lib.ListN.{length, replicate}
-use Rattle.config.specs.Refusal.{refused}
-use Rattle.manifest.specs.Check.{checked_by}
+use borrow.Author.Tests.{ne_eqb}
+use Rattle.std.proofs.lemmas.Result.{err_from_is_err_and}
+use Rattle.config.proofs.Numbers.{some_number}
+use Rattle.manifest.specs.Check.{manifest_number, checked_by}
 use Rattle.manifest.proofs.Passed.{accepted, cleared, left}
 use Rattle.manifest.proofs.check.Goals as goal
 
-pub answer-requires : goal.answer-requires
-answer-requires c _ =
-    (accepted c.args.manifest.now c.args.expected_crc (length c.args.scratch.now) (rw c.accept-number.ensures.0 at c.if-number-eq0.true)).0.head
-
-pub returns-then-number-eq0 : goal.returns-then-number-eq0
-returns-then-number-eq0 c =
+pub returns-in_err-accepted : goal.returns-in_err-accepted
+unfolding checked_by
+returns-in_err-accepted c =
     let m = c.args.manifest.now in
     let t = c.args.scratch.now in
-    let e = rw c.accept-number.ensures.0 at c.if-number-eq0.true in
-    (c.answer.ensures ∙ ap (λ n. checked_by m (refused n 0)) c.accept-number.ensures.0, c.clear.ensures ∙ ap (λ n. replicate n 0) c.accept-number.auto.scratch ∙ cleared m c.args.expected_crc t e)
+    let p = err_from_is_err_and c.from_residual.result c.from_residual.ensures.1 in
+    let e = c.in_err-accepted.ensures.told in
+    let n = rw e at (some_number c.in_err-accepted.field-0.0) in
+    (rw (p.1, p.2, e, ne_eqb (manifest_number m c.args.expected_crc (length t)) 0 n), c.accept.ensures.scratch_after ∙ left m c.args.expected_crc t n)
+
+pub head-requires : goal.head-requires
+head-requires c =
+    let k = c.in_ok-accepted in
+    rw k.ensures.bytes (accepted c.args.manifest.now c.args.expected_crc (length c.args.scratch.now) (sym k.ensures.told)).0.head
 
 pub returns : goal.returns
+unfolding checked_by
 returns c =
     let m = c.args.manifest.now in
     let t = c.args.scratch.now in
-    let a = c.accept-number.ensures in
-    (c.answer-2.ensures ∙ ap (λ n. checked_by m (refused n 0)) a.0, a.1 ∙ left m c.args.expected_crc t (rw a.0 at c.if-number-eq0.false))
-
-pub shape_of-scratch-then-number-eq0 : goal.shape_of-scratch-then-number-eq0
-shape_of-scratch-then-number-eq0 c = c.clear.auto.s ∙ c.accept-number.auto.scratch
-
-pub answer-requires-2 : goal.answer-requires-2
-answer-requires-2 c e = absurd (c.if-number-eq0.false e)
-
-pub shape_of-scratch : goal.shape_of-scratch
-shape_of-scratch c = c.accept-number.auto.scratch
+    let k = c.in_ok-accepted in
+    (rw (← k.ensures.told, c.head.ensures, k.ensures.bytes), c.clear.ensures ∙ ap (λ n. replicate n 0) c.accept.auto.scratch ∙ cleared m c.args.expected_crc t (sym k.ensures.told))

@@ -1,45 +1,44 @@
-use mathlib.Core.Path.{◌≡◌, ap, ◌∙◌}
-use lib.ListN.{length, replicate}
-use borrow.Author.Tests.{eq-eqb, ne_eqb}
-use Rattle.manifest.specs.Check.{manifest_number}
-use Rattle.manifest.proofs.Passed.{accepted, cleared, left}
+use mathlib.Core.Path.{sym, ap, ◌∙◌}
+use lib.ListN.{replicate}
+use borrow.Author.Tests.{eq-eqb}
+use Rattle.std.proofs.lemmas.Result.{err_from_is_err_and}
+use Rattle.config.proofs.Numbers.{some_number}
+use Rattle.manifest.proofs.Passed.{cleared, left}
 use Rattle.quantized_cache.specs.Size.{size_number}
+use Rattle.quantized_cache.proofs.Sizes.{refused_before}
 use Rattle.quantized_cache.proofs.accept.Goals as goal
 
--- the manifest is accepted
-number : (c : goal.After-sizing)
-    → let a = c.args in
-    manifest_number a.m.now a.expected (length a.scratch.now) ≡ 0
-number c = rw c.accept-number.ensures.0 at c.if-number-ne0.false
-
--- the manifest is accepted
-number-2 : (c : goal.After-slice_known-3-1)
-    → let a = c.args in
-    manifest_number a.m.now a.expected (length a.scratch.now) ≡ 0
-number-2 c = rw c.accept-number.ensures.0 at c.if-number-ne0.false
-
-pub returns-then-number-ne0 : goal.returns-then-number-ne0
+pub returns-in_err-manifest-clause-told : goal.returns-in_err-manifest-clause-told
 unfolding size_number
-returns-then-number-ne0 c =
-    let a = c.args in
-    let e = c.accept-number.ensures in
-    let h = rw e.0 at c.if-number-ne0.true in
-    (rw (ne_eqb (manifest_number a.m.now a.expected (length a.scratch.now)) 0 h) e.0, e.1 ∙ left a.m.now a.expected a.scratch.now h)
+returns-in_err-manifest-clause-told c =
+    let p = err_from_is_err_and c.from_residual.result c.from_residual.ensures.1 in
+    rw (p.1, p.2) (refused_before c.in_err-manifest.field-0.0 _ c.in_err-manifest.ensures.told)
 
-pub returns : goal.returns
+pub returns-in_err-manifest-clause-scratch_after : goal.returns-in_err-manifest-clause-scratch_after
+returns-in_err-manifest-clause-scratch_after c =
+    let a = c.args in
+    let n = rw c.in_err-manifest.ensures.told at (some_number c.in_err-manifest.field-0.0) in
+    c.accept.ensures.scratch_after ∙ left a.m.now a.expected a.scratch.now n
+
+pub returns-in_err-size-clause-told : goal.returns-in_err-size-clause-told
 unfolding size_number
-returns c =
+returns-in_err-size-clause-told c =
+    let p = err_from_is_err_and c.from_residual-in_err-size.result c.from_residual-in_err-size.ensures.1 in
+    let k = c.in_ok-manifest.ensures in
+    rw (p.1, p.2, eq-eqb _ 0 (sym k.told)) (rw k.bytes at c.in_err-size.ensures.told)
+
+pub returns-in_err-size-clause-scratch_after : goal.returns-in_err-size-clause-scratch_after
+returns-in_err-size-clause-scratch_after c =
     let a = c.args in
-    let h = number c in
-    (rw (eq-eqb (manifest_number a.m.now a.expected (length a.scratch.now)) 0 h) c.sizing.ensures, c.clear.ensures ∙ ap (λ n. replicate n 0) c.accept-number.auto.scratch ∙ cleared a.m.now a.expected a.scratch.now h)
+    c.clear.ensures ∙ ap (λ n. replicate n 0) c.accept.auto.scratch ∙ cleared a.m.now a.expected a.scratch.now (sym c.in_ok-manifest.ensures.told)
 
-pub shape_of-scratch-then-number-ne0 : goal.shape_of-scratch-then-number-ne0
-shape_of-scratch-then-number-ne0 c = c.accept-number.auto.scratch
+pub returns-clause-told : goal.returns-clause-told
+unfolding size_number
+returns-clause-told c =
+    let k = c.in_ok-manifest.ensures in
+    rw (eq-eqb _ 0 (sym k.told)) (rw k.bytes at c.in_ok-size.ensures.told)
 
-pub sizing-requires : goal.sizing-requires
-sizing-requires c =
+pub returns-clause-scratch_after : goal.returns-clause-scratch_after
+returns-clause-scratch_after c =
     let a = c.args in
-    (accepted a.m.now a.expected (length a.scratch.now) (number-2 c)).0.head
-
-pub shape_of-scratch : goal.shape_of-scratch
-shape_of-scratch c = c.clear.auto.s ∙ c.accept-number.auto.scratch
+    c.clear.ensures ∙ ap (λ n. replicate n 0) c.accept.auto.scratch ∙ cleared a.m.now a.expected a.scratch.now (sym c.in_ok-manifest.ensures.told)

@@ -1,66 +1,42 @@
-use mathlib.Core.Path.{◌≡◌, ◌∙◌}
+use mathlib.Core.Path.{sym}
 use lib.ListN.{length}
-use borrow.Author.Tests.{eq-eqb, ne_eqb}
-use Rattle.quantized_cache.specs.Open.{open_number, open_refusal}
-use Rattle.quantized_cache.proofs.Opens.{HeadPassed, head_passed}
+use borrow.Author.Tests.{ne_eqb}
+use Rattle.std.proofs.lemmas.Result.{err_from_is_err_and}
+use Rattle.config.proofs.Numbers.{some_number}
+use Rattle.quantized_cache.specs.Open.{open_refusal, opened_by}
+use Rattle.quantized_cache.proofs.Opens.{head_passed}
 use Rattle.quantized_cache.proofs.open.Goals as goal
 
--- the tests before the rows are passed
-number : (c : goal.After-answer-2)
-    → let a = c.args in
-    open_number a.manifest.now a.expected_crc (length a.scratch.now) a.cache.now a.platform.now a.root.now a.options ≡ 0
-number c = rw c.open_number-number.ensures.0 at c.if-number-ne0.false
+pub returns-in_err-m : goal.returns-in_err-m
+unfolding open_refusal opened_by
+returns-in_err-m c =
+    let p = err_from_is_err_and c.from_residual.result c.from_residual.ensures.1 in
+    let n = ne_eqb _ 0 (some_number c.in_err-m.field-0.0) in
+    (rw (p.1, p.2, ← c.in_err-m.ensures.told, n, n), c.open_head.ensures.scratch_after)
 
--- the tests before the rows are passed
-number-2 : (c : goal.Else-number-ne0)
-    → let a = c.args in
-    open_number a.manifest.now a.expected_crc (length a.scratch.now) a.cache.now a.platform.now a.root.now a.options ≡ 0
-number-2 c = rw c.open_number-number.ensures.0 at c.if-number-ne0.false
-
--- the tests before the rows are passed
-number-3 : (c : goal.After-rows_refusal-refusal)
-    → let a = c.args in
-    open_number a.manifest.now a.expected_crc (length a.scratch.now) a.cache.now a.platform.now a.root.now a.options ≡ 0
-number-3 c = rw c.open_number-number.ensures.0 at c.if-number-ne0.false
-
-head : (c : goal.Else-number-ne0)
-    → let a = c.args in
-    HeadPassed a.manifest.now a.expected_crc (length a.scratch.now) a.cache.now a.platform.now a.root.now a.options
-head c =
+pub check_rows-requires : goal.check_rows-requires
+check_rows-requires c =
     let a = c.args in
-    head_passed a.manifest.now a.expected_crc (length a.scratch.now) a.cache.now a.platform.now a.root.now a.options (number-2 c)
+    let k = c.in_ok-m.ensures in
+    rw k.bytes (head_passed a.manifest.now a.expected_crc (length a.scratch.now) a.cache.now a.location.platform.now a.location.root.now a.options (sym k.told)).rows
 
-head-2 : (c : goal.After-rows_refusal-refusal)
-    → let a = c.args in
-    HeadPassed a.manifest.now a.expected_crc (length a.scratch.now) a.cache.now a.platform.now a.root.now a.options
-head-2 c =
-    let a = c.args in
-    head_passed a.manifest.now a.expected_crc (length a.scratch.now) a.cache.now a.platform.now a.root.now a.options (number-3 c)
+pub returns-in_err-check_rows : goal.returns-in_err-check_rows
+unfolding open_refusal opened_by
+returns-in_err-check_rows c =
+    let p = err_from_is_err_and c.from_residual-in_err-check_rows.result c.from_residual-in_err-check_rows.ensures.1 in
+    let k = c.in_ok-m.ensures in
+    let e = rw k.bytes at c.in_err-check_rows.ensures in
+    (rw (p.1, p.2, ← k.told, ← e, ne_eqb _ 0 (some_number c.in_err-check_rows.field-0.0.number)), c.open_head.ensures.scratch_after)
 
-pub returns-then-number-ne0 : goal.returns-then-number-ne0
-unfolding open_refusal
-returns-then-number-ne0 c =
+pub head-requires : goal.head-requires
+head-requires c =
     let a = c.args in
-    let e = c.open_number-number.ensures in
-    (c.answer.ensures ∙ rw (e.0, ne_eqb (open_number a.manifest.now a.expected_crc (length a.scratch.now) a.cache.now a.platform.now a.root.now a.options) 0 (rw e.0 at c.if-number-ne0.true)), e.1)
+    let k = c.in_ok-m.ensures in
+    rw k.bytes (head_passed a.manifest.now a.expected_crc (length a.scratch.now) a.cache.now a.location.platform.now a.location.root.now a.options (sym k.told)).library.manifest.head
 
 pub returns : goal.returns
-unfolding open_refusal
+unfolding open_refusal opened_by
 returns c =
-    let a = c.args in
-    (c.answer-2.ensures ∙ rw (c.rows_refusal-refusal.ensures, eq-eqb (open_number a.manifest.now a.expected_crc (length a.scratch.now) a.cache.now a.platform.now a.root.now a.options) 0 (number c)), c.open_number-number.ensures.1)
-
-pub answer-requires : goal.answer-requires
-answer-requires c e = absurd (c.if-number-ne0.true e)
-
-pub shape_of-scratch-then-number-ne0 : goal.shape_of-scratch-then-number-ne0
-shape_of-scratch-then-number-ne0 c = c.open_number-number.auto.scratch
-
-pub rows_refusal-refusal-requires : goal.rows_refusal-refusal-requires
-rows_refusal-refusal-requires c = let h = head c in (h.library.manifest.head, h.rows)
-
-pub answer-requires-2 : goal.answer-requires-2
-answer-requires-2 c e = (head-2 c).library.manifest.head
-
-pub shape_of-scratch : goal.shape_of-scratch
-shape_of-scratch c = c.open_number-number.auto.scratch
+    let k = c.in_ok-m.ensures in
+    let e = rw k.bytes at c.in_ok-check_rows.ensures in
+    (rw (← k.told, ← e, c.head.ensures, k.bytes), c.open_head.ensures.scratch_after)

@@ -226,7 +226,7 @@ find-found-requires c =
     let p = c.requires.laid_out in record { laid_out = (p.0, p.1, c.starts-starts.ensures, c.requires.ascending.1); levels = ((search rules, search rules), p.2, c.requires.ascending.0, keys-cut-4 c ∙ sym (candidates-cut-3 c)) }
 
 pub starts-starts-requires : goal.starts-starts-requires
-starts-starts-requires c = (c.requires.laid_out.0, lengths_of c.args.m.now c.requires.laid_out.1)
+starts-starts-requires c = lengths_of c.args.m.now c.requires.laid_out.1
 
 pub slice_bounds-find-end : goal.slice_bounds-find-end
 slice_bounds-find-end c = keys-long-5 c

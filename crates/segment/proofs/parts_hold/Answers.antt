@@ -9,4 +9,4 @@ unfolding parts_ok
 returns c =
     let a = c.args in
     let e : (a.at + 12 + 4 * a.dimensions + a.metadata) - (a.at + 12 + 4 * a.dimensions) ≡ a.metadata = omega arith in
-    rw (c.valid.ensures, c.validate_record.ensures, c.wide.ensures, c.u32_at.ensures, c.u64_at.ensures, e)
+    rw (c.valid.ensures, c.validate_record.ensures, c.u32_at.ensures, c.u64_at.ensures, e)
