@@ -2,26 +2,22 @@
 use mathlib.Core.Path.{◌≡◌, sym, ap, ◌∙◌}
 use mathlib.Core.Bool.{Bool, true, false}
 use mathlib.Core.List.{List}
-use Prim.Native.Nat.{ℕ, ◌+◌, ◌≤◌, ◌<◌}
-use native.Mathlib.Omega.{arith}
+use Prim.Native.Nat.{ℕ, ◌+◌, ◌<◌}
 use lib.Ieee.{Float}
-use lib.ListN.{length, length-map}
+use lib.ListN.{length}
 use Rattle.rank.specs.Limit.{by_key}
 use Rattle.rank.specs.Rows.{passing}
 use Rattle.rank.proofs.ByKey.{order}
 use Rattle.rank.proofs.Limit.{rising_once}
 use Rattle.rank.proofs.Rows.{passing-none, passing-more, passing_skip, passing_rising}
 use Rattle.rank.proofs.Sort.{to_sort, distinct-sort, ascending-sort}
-use Rattle.config.specs.Refusal.{none}
-use Rattle.config.specs.declared.Refusal.{Refusal}
+use Rattle.config.specs.Refusal.{Refusal, none}
 use Rattle.config.proofs.Refusals.{is-other}
 use Rattle.format.specs.Fields.{rows_of}
 use Rattle.search_spec.specs.Outcome.{same_places}
 use Rattle.search_spec.specs.Scan.{record_refusal}
 use Rattle.search_spec.proofs.Prefix.{Part, Agrees}
-use Rattle.rerank.specs.Rerank.{key_at, measure_at}
-use Rattle.rerank.specs.declared.Measure.TheVariants.{Key, Refused}
-use Rattle.rerank.proofs.Records.{key_of_lem, refusal_of_lem}
+use Rattle.rerank.specs.Rerank.{key_at}
 use Rattle.agreement.specs.Count.{key_not_after, AheadIs, Listed, CountIs, all_ranked}
 use Rattle.agreement.proofs.Places.{agrees_start, agrees_turn, agrees-all}
 use Rattle.agreement.proofs.Records.{RecordsTo, records-start, records_skip, records_turn, records-stop, records-end}
@@ -34,10 +30,6 @@ pub record Counting (m s : List ℕ) (q : List Float) (ok : ℕ → Bool) (rs : 
 module _ {m s : List ℕ} {q : List Float} {ok : ℕ → Bool} {ks rs : List ℕ} (L : Listed m s q ok ks rs) where
   pub counting_start : Counting m s q ok rs 0 (length rs)
   counting_start = record { records = records-start m s q ok; agrees = rw (passing-none ok) (agrees_start (key_at m s q) ks rs L.keys L.up) }
-
-  -- there is a key for each
-  pub both_long : {row n : ℕ} → Counting m s q ok rs row n → (n ≤ length ks) × (n ≤ length rs)
-  both_long C = let f = C.agrees.fits in let e = ap length L.keys ∙ length-map rs (key_at m s q) in (omega arith, f)
 
   all_parts : Part (by_key (key_at m s q)) (order (key_at m s q)) rs (all_ranked m s q ok)
   all_parts =
@@ -55,20 +47,20 @@ module _ {m s : List ℕ} {q : List Float} {ok : ℕ → Bool} {ks rs : List ℕ
     pub counting_skip : ok row ≡ false → Counting m s q ok rs (row + 1) n
     counting_skip e = record { records = records_skip m s q ok C.records e; agrees = rw (passing_skip ok row e) C.agrees }
 
-    pub counting_turn : {k r : ℕ} → row < rows_of m → ok row ≡ true → Key k ≡ measure_at m s q row → AheadIs (key_not_after ks rs k row) rs n row r → Counting m s q ok rs (row + 1) r
-    counting_turn {k} {r} h e y H =
-        let t = key_of_lem (record_refusal m s q row) (key_at m s q row) y in
+    pub counting_turn : {k r : ℕ} → row < rows_of m → ok row ≡ true → none ≡ record_refusal m s q row → k ≡ key_at m s q row
+        → AheadIs (key_not_after ks rs k row) rs n row r → Counting m s q ok rs (row + 1) r
+    counting_turn {k} {r} h e z y H =
         record {
-          records = records_turn m s q ok C.records h e t.0;
-          agrees = rw (passing-more ok row e) (agrees_turn (key_at m s q) ks rs L.keys L.up C.agrees row (rw t.1 at H));
+          records = records_turn m s q ok C.records h e (ap (λ (x : Refusal). x.number) (sym z));
+          agrees = rw (passing-more ok row e) (agrees_turn (key_at m s q) ks rs L.keys L.up C.agrees row (rw y at H));
         }
 
-    pub counting_stop : {f : Refusal} → row < rows_of m → ok row ≡ true → Refused f ≡ measure_at m s q row → CountIs m s q ok rs (record { refusal = f; agreement = 0 })
-    counting_stop {f} h e y =
-        let t = refusal_of_lem (record_refusal m s q row) (key_at m s q row) y in
+    pub counting_stop : {f : Refusal} → row < rows_of m → ok row ≡ true → (f.number ≡ 0 → ⊥) → f ≡ record_refusal m s q row
+        → CountIs m s q ok rs (record { refusal = f; agreement = 0 })
+    counting_stop {f} h e z y =
         record {
-          refusal = t.0 ∙ records-stop m s q ok C.records h e t.1;
-          agreement = sym (is-other f (same_places rs (all_ranked m s q ok)) 0 (λ z. t.1 (rw t.0 at z)));
+          refusal = y ∙ records-stop m s q ok C.records h e (rw y at z);
+          agreement = sym (is-other f (same_places rs (all_ranked m s q ok)) 0 z);
         }
 
     pub counting_end : row ≡ rows_of m → CountIs m s q ok rs (record { refusal = none; agreement = n })

@@ -3,7 +3,7 @@ use mathlib.Core.Path.{◌≡◌, refl, sym, ap, ◌∙◌}
 use mathlib.Core.Logic.{◌≢◌, inl, inr, ⊎_elim}
 use mathlib.Core.Bool.{Bool, true, false, true≢false}
 use mathlib.Core.List.{List, [], ◌∷◌, ◌++◌, map}
-use Prim.Native.Nat.{ℕ, zero, suc, ◌+◌, ◌-◌, ◌≤◌, ◌<◌}
+use Prim.Native.Nat.{ℕ, zero, suc, ◌-◌, ◌≤◌, ◌<◌}
 use native.Mathlib.Omega.{arith}
 use lib.Dec.{eqb, ltb}
 use lib.ListN.{length, get_or}
@@ -27,26 +27,6 @@ pub record Between (test : ℕ → Bool) (n low high : ℕ) : Type 0 where
   pub below : high < n
   pub at : test high ≡ true
   pub after : (j : ℕ) → suc j ≡ low → test j ≡ false
-
-module _ {test : ℕ → Bool} {n : ℕ} where
-  pub first-none : n ≡ 0 → FirstIs test n 0
-  first-none z = record { fits = omega arith; at = λ h. absurd (omega arith); after = λ j h. absurd (omega arith) }
-
-  pub first-all : {i : ℕ} → i ≡ n - 1 → (n ≡ 0 → ⊥) → test i ≡ false → FirstIs test n n
-  first-all {i} e z t = record { fits = omega arith; at = λ h. absurd (omega arith); after = λ j h. let q : j ≡ i = omega (arith, z) in rw q t }
-
-  pub between : {i : ℕ} → i ≡ n - 1 → (n ≡ 0 → ⊥) → test i ≡ true → Between test n 0 i
-  between e z t = record { order = omega arith; below = omega (arith, z); at = t; after = λ j h. absurd (omega arith) }
-
-  module _ {low high mid : ℕ} (B : Between test n low high) (h : low ≤ mid) (l : mid < high) where
-    pub lowered : test mid ≡ true → Between test n low mid
-    lowered t = record { order = h; below = let b = B.below in omega arith; at = t; after = B.after }
-
-    pub raised : {i : ℕ} → i ≡ mid + 1 → test mid ≡ false → Between test n i high
-    raised e t = record { order = omega arith; below = B.below; at = B.at; after = λ j g. let q : j ≡ mid = omega arith in rw q t }
-
-  pub found : {low high : ℕ} → Between test n low high → high ≤ low → FirstIs test n low
-  found {low} {high} B h = let e : low ≡ high = (let o = B.order in omega arith) in record { fits = let b = B.below in omega arith; at = λ l. rw e B.at; after = B.after }
 
 -- ---- a list in order, with its keys
 

@@ -16,8 +16,7 @@ use Rattle.rank.specs.Rows.{passing}
 use Rattle.rank.proofs.Sort.{sort_snoc, insert_last}
 use Rattle.rank.proofs.Numbers.{eq_or_ne, leb_order}
 use Rattle.rank.proofs.Rows.{passing_pass, passing-none, count-more, count_skip}
-use Rattle.config.specs.Refusal.{none}
-use Rattle.config.specs.declared.Refusal.{Refusal}
+use Rattle.config.specs.Refusal.{Refusal, none}
 use Rattle.format.specs.Fields.{rows_of}
 use Rattle.format.proofs.First.{Reached, reached_start, reached_turn}
 use Rattle.format.proofs.Refusals.{passes, refusal-stop, refusal-end}

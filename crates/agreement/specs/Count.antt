@@ -2,16 +2,17 @@
 -- The agreement count (document 01, The report: "an agreement count: the number of places at which the list and the list over all eligible
 -- records hold the same id. It is its own call, refusing as a search does, 23 and 24 over all eligible rows"; readings R27). Rows stand for
 -- their ids.
-use Rattle.std.specs.Prelude.{◌≡◌, Bool, true, false, cond, List, map, ℕ, suc, ◌≤◌, ◌<◌, leb, ltb, eqb, Float, get_or}
+use Rattle.std.specs.Prelude.{◌≡◌, Bool, true, false, cond, List, map, ℕ, suc, ◌≤◌, ◌<◌, leb, ltb, eqb, Float, get_or, Result}
 use Rattle.rank.specs.Sort.{◌∈◌, Distinct, Ascending, sort}
 use Rattle.rank.specs.Limit.{by_key}
 use Rattle.rank.specs.Rows.{passing}
-use Rattle.config.specs.Refusal.{unless_refused}
+use Rattle.config.specs.Refusal.{Refusal, unless_refused}
+use Rattle.config.specs.Told.{told, granted}
+use Rattle.config.specs.declared.Refused.{Refused}
 use Rattle.format.specs.Fields.{rows_of}
 use Rattle.search_spec.specs.Scan.{records_refusal}
 use Rattle.search_spec.specs.Outcome.{same_places}
 use Rattle.rerank.specs.Rerank.{key_at}
-use Rattle.agreement.specs.declared.Counted.{Counted}
 
 -- ---- the steps of the count
 
@@ -32,6 +33,16 @@ pub record AheadIs (test : ℕ → Bool) (rs : List ℕ) (n row r : ℕ) : Type 
   pub so : r ≡ cond (ltb place n) (cond (eqb (get_or rs place 0) row) n place) n
 
 -- ---- the count
+
+-- a refusal, or at how many places the lists agree
+pub record Counted : Type 0 where
+  pub refusal : Refusal
+  pub agreement : ℕ
+
+-- what the code answers
+abbrev pub counted : Result ℕ Refused → Counted
+counted r = record { refusal = told r; agreement = granted 0 r }
+
 module _ (m s : List ℕ) (q : List Float) (eligible : ℕ → Bool) where
   -- all eligible rows by original distance and row
   abbrev pub all_ranked : List ℕ

@@ -3,7 +3,7 @@
 #![tactic(auto)]
 
 ghost use Rattle.std.specs.Prelude.{◌≡◌, [], length};
-ghost use Rattle.config.specs.Told.{told};
+ghost use Rattle.config.specs.Told.{told, numbered};
 ghost use Rattle.manifest.specs.Check.{checked, scratch_left};
 ghost use Rattle.segment.specs.Check.{checked_library};
 ghost use Rattle.quantization.specs.Encoder.{base_levels, midpoints};
@@ -12,17 +12,20 @@ ghost use Rattle.quantized_cache.specs.Open.{opened};
 ghost use Rattle.prepare.specs.Prepare.{cache_after, prepared};
 ghost use Rattle.resident.specs.Build.{built, codes_after, scales_after, norms_after};
 ghost use Rattle.records.specs.Records.{hand_out_refusal, handed_out};
-ghost use Rattle.search_spec.specs.Lent.{answers_of, work_of, call_of, every, only};
+ghost use Rattle.search_spec.specs.Lent.{answers_of, work_of, call_of, every, only, wanted_of};
+ghost use Rattle.search_spec.specs.Outcome.{searched as outcome, agreed};
 ghost use Rattle.search_spec.specs.Kept.{cached as cached_outcome, resident as resident_outcome, agreement_cached, agreement_resident};
 ghost use Rattle.api_state.specs.Bytes.{head_bytes, head_in, bytes_of_cache, cache_in, resident_bytes, resident_in};
 ghost use Rattle.api_answers.specs.Numbers.{info_numbers, report_numbers, distance_four_of};
 
 use cache_format::{Location, Options};
-use config::Refused;
+use config::{Number, Refused};
+use kept::{Cached, Kept, Resident};
 use prepare::Info;
 use quantized_cache::CacheState;
 use records::Record;
 use resident::ResidentState;
+use search_spec::{Answers, Call, Report, Work};
 
 // What is refused: its place goes into the room that the caller lends, its number is returned. Both are 0 where nothing is.
 fn tell<T>(answer: &Result<T, Refused>, place: &mut u64) -> u32
@@ -37,6 +40,16 @@ fn tell<T>(answer: &Result<T, Refused>, place: &mut u64) -> u32
             *place = refused.place;
             refused.number.number()
         }
+    }
+}
+
+// The number of what is refused at 0, or 0.
+fn number<T>(answer: &Result<T, Number>) -> u32
+    ensures { result ≡ numbered answer.now }
+{
+    match answer {
+        Ok(_) => 0,
+        Err(number) => number.number(),
     }
 }
 
@@ -243,6 +256,128 @@ pub extern "C" fn pv_resident_build(
 
 // ---- Searches and their agreement counts, over a cache and over resident rows, of all ids or of those handed in.
 
+// A search; its report goes into the room that the caller lends, zeros where it is refused.
+fn searched<K: Kept>(
+    kept: K,
+    manifest: &[u8],
+    segments: &[u8],
+    wanted: Option<&[u64]>,
+    query: &[f32],
+    k: usize,
+    limit: usize,
+    keys: &mut [u64],
+    candidates: &mut [u64],
+    id_work: &mut [u64],
+    ids: &mut [u64],
+    distances: &mut [f64],
+    rows: &mut [u64],
+    starts: &mut [u64],
+    lengths: &mut [u32],
+    report: &mut [u64; 7],
+    place: &mut u64,
+) -> u32
+    ensures { let a = answers_of ids.old distances.old rows.old starts.old lengths.old in
+        let w = work_of keys.old candidates.old id_work.old in
+        let c = call_of manifest.now segments.now (wanted_of wanted.entry) query.now k limit a w in
+        let o = outcome (K.head_of kept) (K.seen kept manifest.now) c in
+        (result ≡ o.refusal.number)
+        × (place.new ≡ o.refusal.place)
+        × (report.new ≡ report_numbers o.report)
+        × (answers_of ids.new distances.new rows.new starts.new lengths.new ≡ o.answers)
+        × (work_of keys.new candidates.new id_work.new ≡ o.work) }
+{
+    let call = Call {
+        manifest,
+        segments,
+        wanted,
+        query,
+        k,
+        limit,
+    };
+    let mut work = Work {
+        keys,
+        candidates,
+        ids: id_work,
+    };
+    let mut answers = Answers {
+        ids,
+        distances,
+        rows,
+        starts,
+        lengths,
+    };
+    let answer = search::search(kept, &call, &mut work, &mut answers);
+    let number = tell(&answer, place);
+    let nothing = Report {
+        generation: 0,
+        sequence: 0,
+        eligible: 0,
+        measured: 0,
+        complete: false,
+        approximate: false,
+        count: 0,
+    };
+    *report = api_answers::report_numbers(answer.unwrap_or(nothing));
+    number
+}
+
+// An agreement count, 0 where it is refused.
+fn counted<K: Kept>(
+    kept: K,
+    manifest: &[u8],
+    segments: &[u8],
+    wanted: Option<&[u64]>,
+    query: &[f32],
+    k: usize,
+    limit: usize,
+    keys: &mut [u64],
+    candidates: &mut [u64],
+    id_work: &mut [u64],
+    ids: &mut [u64],
+    distances: &mut [f64],
+    rows: &mut [u64],
+    starts: &mut [u64],
+    lengths: &mut [u32],
+    agreement: &mut u64,
+    place: &mut u64,
+) -> u32
+    ensures { let a = answers_of ids.old distances.old rows.old starts.old lengths.old in
+        let w = work_of keys.old candidates.old id_work.old in
+        let c = call_of manifest.now segments.now (wanted_of wanted.entry) query.now k limit a w in
+        let o = agreed (K.head_of kept) (K.seen kept manifest.now) c in
+        (result ≡ o.refusal.number)
+        × (place.new ≡ o.refusal.place)
+        × (agreement.new ≡ o.agreement)
+        × (answers_of ids.new distances.new rows.new starts.new lengths.new ≡ o.answers)
+        × (work_of keys.new candidates.new id_work.new ≡ o.work) }
+{
+    let call = Call {
+        manifest,
+        segments,
+        wanted,
+        query,
+        k,
+        limit,
+    };
+    let mut work = Work {
+        keys,
+        candidates,
+        ids: id_work,
+    };
+    let mut answers = Answers {
+        ids,
+        distances,
+        rows,
+        starts,
+        lengths,
+    };
+    let answer = search::agreement(kept, &call, &mut work, &mut answers);
+    let number = tell(&answer, place);
+    let count = answer.unwrap_or(0);
+    *agreement = count as u64;
+    number
+}
+
 #[unsafe(no_mangle)]
 pub extern "C" fn pv_search_cached(
     state: &[u8; 608],
@@ -272,15 +407,15 @@ pub extern "C" fn pv_search_cached(
         × (answers_of ids.new distances.new rows.new starts.new lengths.new ≡ o.answers)
         × (work_of keys.new candidates.new [] ≡ o.work) }
 {
-    let accepted = api_state::read_cache(state);
-    let answer = search::cached(
-        accepted, manifest, segments, cache, query, k, limit, keys, candidates, ids, distances,
-        rows, starts, lengths,
-    );
-    let refusal = answer.refusal;
-    *report = api_answers::report_numbers(answer.report);
-    *place = refusal.place;
-    refusal.number
+    let kept = Cached {
+        state: api_state::read_cache(state),
+        cache,
+    };
+    let none = &mut [];
+    searched(
+        kept, manifest, segments, None, query, k, limit, keys, candidates, none, ids, distances,
+        rows, starts, lengths, report, place,
+    )
 }
 
 #[unsafe(no_mangle)]
@@ -314,15 +449,15 @@ pub extern "C" fn pv_search_cached_ids(
         × (answers_of ids.new distances.new rows.new starts.new lengths.new ≡ o.answers)
         × (work_of keys.new candidates.new id_work.new ≡ o.work) }
 {
-    let accepted = api_state::read_cache(state);
-    let answer = search::cached_ids(
-        accepted, manifest, segments, cache, wanted, id_work, query, k, limit, keys, candidates,
-        ids, distances, rows, starts, lengths,
-    );
-    let refusal = answer.refusal;
-    *report = api_answers::report_numbers(answer.report);
-    *place = refusal.place;
-    refusal.number
+    let kept = Cached {
+        state: api_state::read_cache(state),
+        cache,
+    };
+    let wanted = Some(wanted);
+    searched(
+        kept, manifest, segments, wanted, query, k, limit, keys, candidates, id_work, ids,
+        distances, rows, starts, lengths, report, place,
+    )
 }
 
 #[unsafe(no_mangle)]
@@ -356,15 +491,17 @@ pub extern "C" fn pv_search_resident(
         × (answers_of ids.new distances.new rows.new starts.new lengths.new ≡ o.answers)
         × (work_of keys.new candidates.new [] ≡ o.work) }
 {
-    let accepted = api_state::read_resident(state);
-    let answer = search::resident(
-        accepted, manifest, segments, codes, scales, norms, query, k, limit, keys, candidates, ids,
-        distances, rows, starts, lengths,
-    );
-    let refusal = answer.refusal;
-    *report = api_answers::report_numbers(answer.report);
-    *place = refusal.place;
-    refusal.number
+    let kept = Resident {
+        state: api_state::read_resident(state),
+        codes,
+        scales,
+        norms,
+    };
+    let none = &mut [];
+    searched(
+        kept, manifest, segments, None, query, k, limit, keys, candidates, none, ids, distances,
+        rows, starts, lengths, report, place,
+    )
 }
 
 #[unsafe(no_mangle)]
@@ -400,15 +537,17 @@ pub extern "C" fn pv_search_resident_ids(
         × (answers_of ids.new distances.new rows.new starts.new lengths.new ≡ o.answers)
         × (work_of keys.new candidates.new id_work.new ≡ o.work) }
 {
-    let accepted = api_state::read_resident(state);
-    let answer = search::resident_ids(
-        accepted, manifest, segments, codes, scales, norms, wanted, id_work, query, k, limit, keys,
-        candidates, ids, distances, rows, starts, lengths,
-    );
-    let refusal = answer.refusal;
-    *report = api_answers::report_numbers(answer.report);
-    *place = refusal.place;
-    refusal.number
+    let kept = Resident {
+        state: api_state::read_resident(state),
+        codes,
+        scales,
+        norms,
+    };
+    let wanted = Some(wanted);
+    searched(
+        kept, manifest, segments, wanted, query, k, limit, keys, candidates, id_work, ids,
+        distances, rows, starts, lengths, report, place,
+    )
 }
 
 #[unsafe(no_mangle)]
@@ -440,15 +579,15 @@ pub extern "C" fn pv_agreement_cached(
         × (answers_of ids.new distances.new rows.new starts.new lengths.new ≡ o.answers)
         × (work_of keys.new candidates.new [] ≡ o.work) }
 {
-    let accepted = api_state::read_cache(state);
-    let answer = search::agreement_cached(
-        accepted, manifest, segments, cache, query, k, limit, keys, candidates, ids, distances,
-        rows, starts, lengths,
-    );
-    let refusal = answer.refusal;
-    *agreement = answer.agreement as u64;
-    *place = refusal.place;
-    refusal.number
+    let kept = Cached {
+        state: api_state::read_cache(state),
+        cache,
+    };
+    let none = &mut [];
+    counted(
+        kept, manifest, segments, None, query, k, limit, keys, candidates, none, ids, distances,
+        rows, starts, lengths, agreement, place,
+    )
 }
 
 #[unsafe(no_mangle)]
@@ -482,15 +621,15 @@ pub extern "C" fn pv_agreement_cached_ids(
         × (answers_of ids.new distances.new rows.new starts.new lengths.new ≡ o.answers)
         × (work_of keys.new candidates.new id_work.new ≡ o.work) }
 {
-    let accepted = api_state::read_cache(state);
-    let answer = search::agreement_cached_ids(
-        accepted, manifest, segments, cache, wanted, id_work, query, k, limit, keys, candidates,
-        ids, distances, rows, starts, lengths,
-    );
-    let refusal = answer.refusal;
-    *agreement = answer.agreement as u64;
-    *place = refusal.place;
-    refusal.number
+    let kept = Cached {
+        state: api_state::read_cache(state),
+        cache,
+    };
+    let wanted = Some(wanted);
+    counted(
+        kept, manifest, segments, wanted, query, k, limit, keys, candidates, id_work, ids,
+        distances, rows, starts, lengths, agreement, place,
+    )
 }
 
 #[unsafe(no_mangle)]
@@ -524,15 +663,17 @@ pub extern "C" fn pv_agreement_resident(
         × (answers_of ids.new distances.new rows.new starts.new lengths.new ≡ o.answers)
         × (work_of keys.new candidates.new [] ≡ o.work) }
 {
-    let accepted = api_state::read_resident(state);
-    let answer = search::agreement_resident(
-        accepted, manifest, segments, codes, scales, norms, query, k, limit, keys, candidates, ids,
-        distances, rows, starts, lengths,
-    );
-    let refusal = answer.refusal;
-    *agreement = answer.agreement as u64;
-    *place = refusal.place;
-    refusal.number
+    let kept = Resident {
+        state: api_state::read_resident(state),
+        codes,
+        scales,
+        norms,
+    };
+    let none = &mut [];
+    counted(
+        kept, manifest, segments, None, query, k, limit, keys, candidates, none, ids, distances,
+        rows, starts, lengths, agreement, place,
+    )
 }
 
 #[unsafe(no_mangle)]
@@ -568,15 +709,17 @@ pub extern "C" fn pv_agreement_resident_ids(
         × (answers_of ids.new distances.new rows.new starts.new lengths.new ≡ o.answers)
         × (work_of keys.new candidates.new id_work.new ≡ o.work) }
 {
-    let accepted = api_state::read_resident(state);
-    let answer = search::agreement_resident_ids(
-        accepted, manifest, segments, codes, scales, norms, wanted, id_work, query, k, limit, keys,
-        candidates, ids, distances, rows, starts, lengths,
-    );
-    let refusal = answer.refusal;
-    *agreement = answer.agreement as u64;
-    *place = refusal.place;
-    refusal.number
+    let kept = Resident {
+        state: api_state::read_resident(state),
+        codes,
+        scales,
+        norms,
+    };
+    let wanted = Some(wanted);
+    counted(
+        kept, manifest, segments, wanted, query, k, limit, keys, candidates, id_work, ids,
+        distances, rows, starts, lengths, agreement, place,
+    )
 }
 
 // ---- Four distances.
@@ -596,10 +739,9 @@ pub extern "C" fn pv_distance_four(
         × (distances.new ≡ answer.distances) }
 {
     let answer = api_answers::distance_four(metric, query, a, b, c, d);
-    let refusal = answer.refusal;
-    let found = answer.distances;
-    *distances = found;
-    refusal.number
+    let number = number(&answer);
+    *distances = answer.unwrap_or([0.0, 0.0, 0.0, 0.0]);
+    number
 }
 
 // ---- Kept rows as a slice of records. The one refusal's place is 0.
@@ -615,6 +757,5 @@ pub extern "C" fn pv_records(
     ensures { (result ≡ (hand_out_refusal ids.now distances.now rows.now count (length out.old)).number)
         × (out.new ≡ handed_out ids.now distances.now rows.now count out.old) }
 {
-    let refusal = records::records(ids, distances, rows, count, out);
-    refusal.number
+    number(&records::records(ids, distances, rows, count, out))
 }

@@ -1,8 +1,7 @@
 -- What holds of every answer that crosses to C.
 use Rattle.std.specs.Prelude.{◌≡◌, true, List, ℕ, ◌<◌, ℤ, Float, replicate}
 use Rattle.le.specs.Le.{le_at}
-use Rattle.config.specs.Refusal.{refused}
-use Rattle.config.specs.declared.Refusal.{Refusal}
+use Rattle.config.specs.Refusal.{Refusal, refused}
 use Rattle.format.specs.declared.Head.{Head}
 use Rattle.cache_format.specs.declared.Options.{Options}
 use Rattle.manifest.specs.Check.{checked}

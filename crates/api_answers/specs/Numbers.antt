@@ -4,8 +4,7 @@ use Rattle.float.specs.Values.{plus_zero, quad}
 use Rattle.config.specs.Refusal.{refused}
 use Rattle.config.specs.Metric.{metric_of}
 use Rattle.format.specs.Fields.{metric_in}
-use Rattle.math.specs.Four.{distance_four}
-use Rattle.math.specs.declared.Four.{Four}
+use Rattle.math.specs.Four.{Four, distance_four}
 use Rattle.prepare.specs.declared.Info.{Info}
 use Rattle.search_spec.specs.declared.Report.{Report}
 

@@ -2,10 +2,10 @@
 #![tactic(auto)]
 
 ghost use Rattle.std.specs.Prelude.{◌≡◌};
+ghost use Rattle.math.specs.Four.{four_outcome};
 ghost use Rattle.api_answers.specs.Numbers.{info_numbers, report_numbers, distance_four_of};
 
-use config::Refusal;
-use math::Four;
+use config::Number;
 use prepare::Info;
 use search_spec::Report;
 
@@ -36,17 +36,19 @@ pub fn report_numbers(report: Report) -> [u64; 7]
 }
 
 // A metric over 2 is refused as a query is.
-pub fn distance_four(metric: u32, query: &[f32], a: &[f32], b: &[f32], c: &[f32], d: &[f32]) -> Four
-    ensures { result ≡ distance_four_of metric query.now a.now b.now c.now d.now }
+#[tactic(auto, unfolding(crate::specs::Numbers::distance_four_of))]
+pub fn distance_four(
+    metric: u32,
+    query: &[f32],
+    a: &[f32],
+    b: &[f32],
+    c: &[f32],
+    d: &[f32],
+) -> Result<[f64; 4], Number>
+    ensures { four_outcome result ≡ distance_four_of metric query.now a.now b.now c.now d.now }
 {
     if 2 < metric {
-        return Four {
-            refusal: Refusal {
-                number: 16,
-                place: 0,
-            },
-            distances: [0.0, 0.0, 0.0, 0.0],
-        };
+        return Err(Number::Query);
     }
     math::distance_four(format::metric_of(metric as u8), query, a, b, c, d)
 }

@@ -104,7 +104,8 @@ fn head_at(b: &[u8], at: usize) -> Head
     requires { (88 ≤ length b.now) × (at + 512 ≤ length b.now) }
     ensures { result ≡ head_at b.now at }
 {
-    if 2 < le::u64_at(b, 56) {
+    let unknown = 2 < le::u64_at(b, 56);
+    if unknown {
         return format::zero_head();
     }
     Head {

@@ -15,11 +15,13 @@ ghost use Rattle.math.specs.Four.{original_four};
 
 use config::Metric;
 use crc32::Table;
+use math::Query;
 use quantization::Encoder;
 
 // ---- CRC-32 and the square root.
 
 // A byte at a time.
+#[tactic(auto, unfolding(crc32::specs::Crc::crc32))]
 #[unsafe(no_mangle)]
 pub extern "C" fn pv_crc32_bytes(s: &[u8]) -> u32
     ensures { result ≡ checksum s.now }
@@ -156,12 +158,24 @@ pub extern "C" fn pv_encode_query(t: &[f64; 127], v: &[f32], out: &mut [i16], no
 
 // ---- Original distances.
 
+// A query whose inverse norm the caller lends with it.
+fn query(metric: Metric, coordinates: &[f64], inverse: f64) -> Query<'_>
+    requires { inverse ≡ inverse_norm coordinates.now }
+    ensures { (result.metric ≡ metric) × (result.coordinates.now ≡ coordinates.now) }
+{
+    Query {
+        metric,
+        coordinates,
+        inverse,
+    }
+}
+
 #[unsafe(no_mangle)]
 pub extern "C" fn pv_squared_l2(q: &[f64], inverse: f64, s: &[u8], at: usize) -> f64
     requires { Readable (length q.now) s.now at × (inverse ≡ inverse_norm q.now) }
     ensures { result ≡ original M.SquaredL2 q.now (floats_at (length q.now) s.now at) }
 {
-    math::original_distance(Metric::SquaredL2, q, inverse, s, at)
+    query(Metric::SquaredL2, q, inverse).distance(s, at)
 }
 
 #[unsafe(no_mangle)]
@@ -169,7 +183,7 @@ pub extern "C" fn pv_cosine(q: &[f64], inverse: f64, s: &[u8], at: usize) -> f64
     requires { Readable (length q.now) s.now at × (inverse ≡ inverse_norm q.now) }
     ensures { result ≡ original M.Cosine q.now (floats_at (length q.now) s.now at) }
 {
-    math::original_distance(Metric::Cosine, q, inverse, s, at)
+    query(Metric::Cosine, q, inverse).distance(s, at)
 }
 
 #[unsafe(no_mangle)]
@@ -177,7 +191,7 @@ pub extern "C" fn pv_inner_product(q: &[f64], inverse: f64, s: &[u8], at: usize)
     requires { Readable (length q.now) s.now at × (inverse ≡ inverse_norm q.now) }
     ensures { result ≡ original M.InnerProduct q.now (floats_at (length q.now) s.now at) }
 {
-    math::original_distance(Metric::InnerProduct, q, inverse, s, at)
+    query(Metric::InnerProduct, q, inverse).distance(s, at)
 }
 
 #[unsafe(no_mangle)]
@@ -202,7 +216,7 @@ pub extern "C" fn pv_squared_l2_four(
         × Readable (length q.now) s.now c × Readable (length q.now) s.now d }
     ensures { (let at : ℕ → List Float = λ p. floats_at (length q.now) s.now p in out.new ≡ original_four M.SquaredL2 q.now (at a) (at b) (at c) (at d)) }
 {
-    *out = math::original_four(Metric::SquaredL2, q, inverse, s, a, b, c, d);
+    *out = query(Metric::SquaredL2, q, inverse).distance_four(s, a, b, c, d);
 }
 
 #[unsafe(no_mangle)]
@@ -220,7 +234,7 @@ pub extern "C" fn pv_cosine_four(
         × Readable (length q.now) s.now c × Readable (length q.now) s.now d }
     ensures { (let at : ℕ → List Float = λ p. floats_at (length q.now) s.now p in out.new ≡ original_four M.Cosine q.now (at a) (at b) (at c) (at d)) }
 {
-    *out = math::original_four(Metric::Cosine, q, inverse, s, a, b, c, d);
+    *out = query(Metric::Cosine, q, inverse).distance_four(s, a, b, c, d);
 }
 
 #[unsafe(no_mangle)]
@@ -238,5 +252,5 @@ pub extern "C" fn pv_inner_product_four(
         × Readable (length q.now) s.now c × Readable (length q.now) s.now d }
     ensures { (let at : ℕ → List Float = λ p. floats_at (length q.now) s.now p in out.new ≡ original_four M.InnerProduct q.now (at a) (at b) (at c) (at d)) }
 {
-    *out = math::original_four(Metric::InnerProduct, q, inverse, s, a, b, c, d);
+    *out = query(Metric::InnerProduct, q, inverse).distance_four(s, a, b, c, d);
 }

@@ -11,7 +11,7 @@ use Rattle.utf8.specs.Grammar.{span}
 use Rattle.float.specs.Values.{plus_zero, one}
 use Rattle.float.specs.Hold.{max_zero, clamp}
 use Rattle.root.specs.SquareRoot.{sqrt_of}
-use Rattle.config.specs.Refusal.{refused}
+use Rattle.config.specs.declared.Number.TheVariants.{Approximate}
 use Rattle.config.specs.declared.Metric.TheVariants.{SquaredL2}
 use Rattle.codes.specs.Codes.{dot, squares, within}
 use Rattle.quantization.specs.View.{valid_row}
@@ -51,7 +51,7 @@ zero_dot (x ∷ cs) zero = refl
 zero_dot (x ∷ cs) (suc n) = rw (*ℤ-zero x, zero_dot cs n)
 
 over : (place n : ℕ) (cs : List ℤ) → valid_row base_levels SquaredL2 (row large 1 cs) ≡ true
-    → row_answer base_levels SquaredL2 true place (row large 1 cs) (encoded (replicate n plus_zero)) ≡ Refused (refused 22 place)
+    → row_answer base_levels SquaredL2 true place (row large 1 cs) (encoded (replicate n plus_zero)) ≡ Refused (record { number = Approximate; place = place })
 unfolding row_answer answer measured approximate distance_of squared_l2 max_zero add sub mul neg lt of_int of_bits
 over place n cs h = rw (h, zero_query n, zero_dot cs n)
 

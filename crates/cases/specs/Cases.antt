@@ -3,7 +3,7 @@ use Rattle.std.specs.Prelude.{◌≡◌, Bool, true, false, List, [], ◌∷◌,
 use Rattle.std.specs.Float.{fin, binary64}
 use Rattle.std.specs.Float.Ieee.{of_bits}
 use Rattle.float.specs.Values.{plus_zero, one, two}
-use Rattle.config.specs.Refusal.{refused}
+use Rattle.config.specs.declared.Number.TheVariants.{Approximate}
 use Rattle.config.specs.declared.Metric.TheVariants.{SquaredL2, Cosine, InnerProduct}
 use Rattle.quantization.specs.View.{View, valid_row}
 use Rattle.quantization.specs.Encoder.{base_levels, encode, code_of, midpoints}
@@ -50,10 +50,10 @@ pub record Cases : Type 0 where
   -- "Inner product, query (1): original distance of record (+0) is -0.0, of record (-0) +0.0"
   pub f_plus : original InnerProduct (one ∷ []) (plus_zero ∷ []) ≡ minus_zero
   pub f_minus : original InnerProduct (one ∷ []) (minus_zero ∷ []) ≡ plus_zero
-  -- "L2, scale 1e200, norm 0: approximate +0. With norm 1 and a zero query: 22": whatever the row's codes are, and in the first case the query
+  -- "L2, scale 1e200, norm 0: approximate +0. With norm 1 and a zero query: 22", which is `Approximate`: whatever the row's codes are, and in the first case the query
   pub g_plus : (cs : List ℤ) (q : View) → approximate SquaredL2 (row large 0 cs) q ≡ plus_zero
   pub g_refused : (place n : ℕ) (cs : List ℤ) → valid_row base_levels SquaredL2 (row large 1 cs) ≡ true
-      → row_answer base_levels SquaredL2 true place (row large 1 cs) (encoded (replicate n plus_zero)) ≡ Refused (refused 22 place)
+      → row_answer base_levels SquaredL2 true place (row large 1 cs) (encoded (replicate n plus_zero)) ≡ Refused (record { number = Approximate; place = place })
   -- "Platform `linux`, root `/s`, one-byte model, one segment, two rows of 3: identity 121, cache 179. Limit 187 passes, 186 gives 9;
   -- block 19 passes, 18 gives 7"; the manifest is 65 bytes, the model, 12 a segment and 20 a row long
   pub h-identity : identity_length 5 2 (65 + 1 + 12 * 1 + 20 * 2) ≡ 121

@@ -3,4 +3,5 @@ pub mod Vectors
 pub mod Coordinates
 pub mod Refusals
 pub mod Numbers
+pub mod Granted
 pub mod Metrics

@@ -6,8 +6,7 @@ use native.Mathlib.Omega.{arith}
 use lib.Dec.{eqb}
 use borrow.Author.Tests.{eqb-true, eqb-false, eq-eqb, ne_eqb}
 use Rattle.le.proofs.Chain.{by}
-use Rattle.config.specs.Refusal.{none, refused, then_refusal, refused_or, refused_at, unless_refused}
-use Rattle.config.specs.declared.Refusal.{Refusal}
+use Rattle.config.specs.Refusal.{Refusal, none, refused, then_refusal, refused_or, refused_at, unless_refused}
 
 pub not_zero : {n : ℕ} → suc n ≡ 0 → ⊥
 not_zero e = absurd (omega arith)

@@ -1,6 +1,9 @@
 -- A refusal (document 01, What each place turns away: "A refusal returns its number and a place"); number 0, place 0 is none.
 use Rattle.std.specs.Prelude.{cond, ℕ, eqb}
-use Rattle.config.specs.declared.Refusal.{Refusal}
+
+pub record Refusal : Type 0 where
+  pub number : ℕ
+  pub place : ℕ
 
 abbrev pub none : Refusal
 none = record { number = 0; place = 0 }

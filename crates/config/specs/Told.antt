@@ -1,8 +1,7 @@
 -- What an entry answers, as document 01's number and place ("Where an answer is an enum, the promises use a definition. The definition gives this
 -- paper's number and values for each of the enum's cases"; What each place turns away: "A refusal returns its number and a place").
 use Rattle.std.specs.Prelude.{ℕ, Option, Some, None, cond, eqb, Result, Ok, Err}
-use Rattle.config.specs.Refusal.{none, refused}
-use Rattle.config.specs.declared.Refusal.{Refusal}
+use Rattle.config.specs.Refusal.{Refusal, none, refused}
 use Rattle.config.specs.declared.Refused.{Refused}
 use Rattle.config.specs.declared.Number.{Number}
 use Rattle.config.specs.declared.Number.TheVariants as N
@@ -39,13 +38,17 @@ abbrev pub numbered : {A : Type 0} → Result A Number → ℕ
 numbered (Ok a) = 0
 numbered (Err n) = number_of n
 
+-- a refusal's number and place
+abbrev pub told_by : Refused → Refusal
+told_by r = refused (number_of r.number) r.place
+
 -- what is refused: nothing, or a number at a place
 abbrev pub told : {A : Type 0} → Result A Refused → Refusal
 told (Ok a) = none
-told (Err r) = refused (number_of r.number) r.place
+told (Err r) = told_by r
 
 -- what is granted: on a refusal what stands for nothing ("All counts are then 0")
-abbrev pub granted : {A : Type 0} → A → Result A Refused → A
+abbrev pub granted : {A E : Type 0} → A → Result A E → A
 granted other (Ok a) = a
 granted other (Err r) = other
 

@@ -5,7 +5,7 @@ ghost use Rattle.std.specs.Prelude.{◌≡◌, ◌&&◌, ◌+◌, ◌*◌, ◌�
 ghost use Rattle.config.specs.Limits.{max_results, max_candidates};
 ghost use Rattle.config.specs.Told.{number_of};
 ghost use Rattle.config.specs.Metric.{metric_of, byte_of, is_cosine};
-ghost use Rattle.config.specs.Refusal.{refused};
+ghost use Rattle.config.specs.declared.Number.TheVariants.{Configuration};
 ghost use Rattle.config.specs.Space.{valid_config, no_zero, valid_space};
 ghost use Rattle.config.specs.Vector.{valid_vector, floats_at, patterns_at, largest_bits};
 
@@ -100,13 +100,6 @@ impl From<Number> for Refused {
     }
 }
 
-// A refusal's number and place; number 0 is none.
-#[derive(Clone, Copy)]
-pub struct Refusal {
-    pub number: u32,
-    pub place: u64,
-}
-
 #[derive(Clone, Copy, Debug, PartialEq, Eq)]
 pub enum Metric {
     SquaredL2,
@@ -134,27 +127,12 @@ impl TryFrom<u8> for Metric {
     }
 }
 
-// As the definitions have it: what an entry that answers a `Refusal` makes of one that answers a `Result`.
-impl From<Refused> for Refusal {
-    ghost from_gives = { λ r refusal. refusal ≡ refused (number_of r.number) r.place };
-
-    fn from(r: Refused) -> Refusal {
-        Refusal {
-            number: r.number.number(),
-            place: r.place,
-        }
-    }
-}
-
 // 2: a metric that is none.
-impl From<UnknownMetric> for Refusal {
-    ghost from_gives = { λ _ refusal. refusal ≡ refused 2 0 };
+impl From<UnknownMetric> for Number {
+    ghost from_gives = { λ _ number. number ≡ Configuration };
 
-    fn from(_: UnknownMetric) -> Self {
-        Refusal {
-            number: 2,
-            place: 0,
-        }
+    fn from(_: UnknownMetric) -> Number {
+        Number::Configuration
     }
 }
 

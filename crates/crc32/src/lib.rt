@@ -52,7 +52,9 @@ pub struct Table {
 }
 
 impl Table {
-    pub fn new() -> Table {
+    pub fn new() -> Table
+        ensures { result.numbers ≡ entries }
+    {
         Table { numbers: TABLE }
     }
 
@@ -73,7 +75,9 @@ pub struct Tables {
 
 impl Tables {
     // Each table is the one before after eight steps.
-    pub fn new() -> Tables {
+    pub fn new() -> Tables
+        ensures { result.numbers ≡ slots }
+    {
         let first = Table::new();
         let mut numbers = [0; 2048];
         numbers[..256].copy_from_slice(&first.numbers);

@@ -2,15 +2,13 @@
 // `BTreeSet` of `search_ids` in the Rust's src/generation.rs.
 #![tactic(auto)]
 
-ghost use Rattle.std.specs.Prelude.{◌≡◌, true, ◌++◌, ◌≤◌, ◌<◌, leb, length, drop};
+ghost use Rattle.std.specs.Prelude.{◌≡◌, ◌++◌, ◌≤◌, ◌<◌, leb, length, drop};
 ghost use Rattle.rank.specs.Sort.{sort, Ascending};
-ghost use Rattle.format.specs.Layout.{LaidOut};
-ghost use Rattle.entries.specs.Plan.{rows_ok};
-ghost use Rattle.search_spec.specs.Lent.{given, handed, everyone};
+ghost use Rattle.search_spec.specs.Lent.{wanted_of, handed, everyone};
 ghost use Rattle.search_spec.specs.Lists.{eligible};
-ghost use Rattle.eligible.specs.Walk.{Behind, Stepped, CursorAt, Turned, sorted_ids};
+ghost use Rattle.eligible.specs.Walk.{Behind, Stepped, CursorAt, Turned, Sorted, ids_of, sorted_ids};
 
-use format::Layout;
+use entries::Table;
 
 // Whether an id is among the sorted ids, or a row eligible; and the cursor for the next.
 #[derive(Clone, Copy)]
@@ -30,12 +28,12 @@ pub fn order(ids: &[u64], work: &mut [u64])
 }
 
 // Whether the id is among the sorted ids, where all before the cursor are below it.
+#[tactic(auto, using(crate::proofs::Walk::stands, crate::proofs::Walk::ended))]
 pub fn step(sorted: &[u64], cursor: usize, id: u64) -> Found
     requires { Ascending leb sorted.now × Behind sorted.now cursor id }
     ensures { Stepped sorted.now id result }
 {
-    let mut at = cursor;
-    while at < sorted.len() {
+    for at in cursor..sorted.len() {
         let x = sorted[at];
         if id <= x {
             return Found {
@@ -43,65 +41,60 @@ pub fn step(sorted: &[u64], cursor: usize, id: u64) -> Found
                 cursor: at,
             };
         }
-        at += 1;
     }
     Found {
         eligible: false,
-        cursor: at,
+        cursor: sorted.len(),
     }
 }
 
-// Whether the row is eligible, where the cursor has come to it. With all ids wanted the sorted ones are not looked at.
-pub fn row_step(
-    m: &[u8],
-    layout: Layout,
-    all: bool,
-    sorted: &[u64],
-    cursor: usize,
-    row: usize,
-) -> Found
-    requires laid_out { LaidOut m.now layout × (row < layout.rows) × (rows_ok m.now ≡ true) }
-    requires ascending { Ascending leb sorted.now × CursorAt m.now sorted.now cursor row }
-    ensures { Turned m.now all sorted.now row result }
+// Whether the row is eligible, where the cursor has come to it. Without a list every row is.
+pub fn row_step(table: Table<'_>, wanted: Option<&[u64]>, cursor: usize, row: usize) -> Found
+    requires row { row < table.manifest.layout.rows }
+    requires sorted { Sorted (wanted_of wanted) × CursorAt table.manifest.bytes.now (ids_of (wanted_of wanted)) cursor row }
+    ensures { Turned table.entry.manifest.bytes.now (wanted_of wanted.entry) row result }
 {
-    if all {
-        return Found {
+    match wanted {
+        None => Found {
             eligible: true,
-            cursor: cursor,
-        };
+            cursor,
+        },
+        Some(sorted) => {
+            let id = entries::read_entry(table.manifest, row).id;
+            step(sorted, cursor, id)
+        }
     }
-    step(sorted, cursor, le::u64_at(m, layout.entries + 20 * row))
 }
 
 // How many rows are eligible.
-pub fn count(m: &[u8], layout: Layout, all: bool, sorted: &[u64]) -> usize
-    requires { LaidOut m.now layout × (rows_ok m.now ≡ true) × Ascending leb sorted.now }
-    ensures { result ≡ length (eligible (given all sorted.now) everyone m.now) }
+pub fn count(table: Table<'_>, wanted: Option<&[u64]>) -> usize
+    requires { Sorted (wanted_of wanted) }
+    ensures { result ≡ length (eligible (wanted_of wanted.entry) everyone table.entry.manifest.bytes.now) }
 {
-    if all {
-        return layout.rows;
+    if wanted.is_none() {
+        return table.manifest.layout.rows;
     }
-    let mut row = 0;
     let mut cursor = 0;
     let mut total = 0;
-    while row < layout.rows {
-        let s = row_step(m, layout, false, sorted, cursor, row);
+    for row in 0..table.manifest.layout.rows {
+        let s = row_step(table, wanted, cursor, row);
         cursor = s.cursor;
         total += s.eligible as usize;
-        row += 1;
     }
     total
 }
 
-// Sorts the ids handed in into the lent slice, and says how many they are. With all ids wanted they are not looked at, and the slice stays.
-pub fn select(all: bool, ids: &[u64], work: &mut [u64]) -> usize
-    requires { handed (given all ids.now) ≤ length work.old }
-    ensures value { result ≡ handed (given all ids.now) }
-    ensures work_after { work.new ≡ sorted_ids (given all ids.now) ++ drop (handed (given all ids.now)) work.old }
+// Sorts the ids handed in into the lent slice, and says how many they are. Without a list the slice stays.
+pub fn select(wanted: Option<&[u64]>, work: &mut [u64]) -> usize
+    requires { handed (wanted_of wanted) ≤ length work.old }
+    ensures value { result ≡ handed (wanted_of wanted.entry) }
+    ensures work_after { work.new ≡ sorted_ids (wanted_of wanted.entry) ++ drop (handed (wanted_of wanted.entry)) work.old }
 {
-    if all {
-        return 0;
+    match wanted {
+        None => 0,
+        Some(ids) => {
+            order(ids, work);
+            ids.len()
+        }
     }
-    order(ids, work);
-    ids.len()
 }

@@ -2,8 +2,7 @@
 -- built by one encoder: from the records lent").
 use Rattle.std.specs.Prelude.{List, ℕ, Float}
 use Rattle.le.specs.Le.{joined}
-use Rattle.config.specs.Refusal.{none, refused_at}
-use Rattle.config.specs.declared.Refusal.{Refusal}
+use Rattle.config.specs.Refusal.{Refusal, none, refused_at}
 use Rattle.quantization.specs.View.{View, row_bytes}
 use Rattle.quantization.specs.Encoder.{encode}
 use Rattle.format.specs.Order.{first_bad}

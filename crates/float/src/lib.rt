@@ -36,6 +36,7 @@ pub trait Pattern: Copy {
         ensures { result ≡ of_bits format (bits self) };
 }
 
+// The two impls differ in their format's numbers alone, and a table of those would be no shorter.
 impl Pattern for u32 {
     ghost format = { binary32 };
 

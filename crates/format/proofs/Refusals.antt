@@ -6,8 +6,7 @@ use native.Mathlib.Omega.{arith}
 use lib.Dec.{eqb}
 use borrow.Author.Tests.{eqb-true, eqb-false, eq-eqb, ne_eqb}
 use Rattle.le.proofs.Chain.{by}
-use Rattle.config.specs.Refusal.{none, then_refusal}
-use Rattle.config.specs.declared.Refusal.{Refusal}
+use Rattle.config.specs.Refusal.{Refusal, none, then_refusal}
 use Rattle.format.specs.Order.{or_else, first_from, first_bad, first_refusal}
 use Rattle.format.proofs.First.{Reached, reached_stop, reached_end, each_passes, all_pass, first-within, first_fails}
 

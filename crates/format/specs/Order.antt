@@ -1,7 +1,6 @@
 -- Tests in the order of document 01's tables ("Manifest checks run in the order `read_manifest` reads", "5 for the lowest bad row").
 use Rattle.std.specs.Prelude.{Bool, cond, ℕ, zero, suc, ◌+◌, ◌-◌, eqb}
-use Rattle.config.specs.Refusal.{none}
-use Rattle.config.specs.declared.Refusal.{Refusal}
+use Rattle.config.specs.Refusal.{Refusal, none}
 
 -- a test and the number of its refusal, before the rest of the table; 0 is no refusal
 abbrev pub unless : Bool → ℕ → ℕ → ℕ

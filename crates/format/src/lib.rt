@@ -40,17 +40,11 @@ pub struct Layout {
     pub entries: usize,
 }
 
-pub fn wide(x: u32) -> usize
-    ensures { (result ≡ x) × (result < 4294967296) }
-{
-    x as usize
-}
-
 fn count_at(m: &[u8], at: usize) -> usize
     requires { at + 4 ≤ length m.now }
     ensures { (result ≡ le_at 4 m.now at) × (result < 4294967296) }
 {
-    wide(le::u32_at(m, at))
+    le::u32_at(m, at) as usize
 }
 
 fn span(low: usize, high: usize, x: usize) -> bool
@@ -172,11 +166,8 @@ pub fn read_model(b: &[u8], at: usize, n: usize) -> [u8; 512]
     ensures { result ≡ take n (drop at b.now) ++ replicate (512 - n) 0 }
 {
     let mut model = [0u8; 512];
-    let mut i = 0;
-    while i < n {
-        model[i] = b[at + i];
-        i += 1;
-    }
+    let end = at + n;
+    model[..n].copy_from_slice(&b[at..end]);
     model
 }
 

@@ -1,2 +1,2 @@
--- Laws of the rows that a call sees.
-pub mod Seen
+-- Laws of kept rows.
+pub mod Lengths

@@ -1,2 +1,2 @@
--- The rows of a call, cached or resident.
+-- The rows that a call sees.
 pub mod Seen

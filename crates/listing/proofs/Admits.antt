@@ -7,8 +7,7 @@ use native.Mathlib.Omega.{arith}
 use lib.ListN.{length}
 use borrow.Author.Tests.{lt-leb}
 use Rattle.le.proofs.Chain.{lt_or_le}
-use Rattle.config.specs.Refusal.{then_refusal}
-use Rattle.config.specs.declared.Refusal.{Refusal}
+use Rattle.config.specs.Refusal.{Refusal, then_refusal}
 use Rattle.config.proofs.Refusals.{then_rest, then_first, is-other}
 use Rattle.format.specs.Fields.{stored_crc}
 use Rattle.format.specs.Head.{opens_ok, head_number}

@@ -9,7 +9,7 @@ use native.Mathlib.Omega.{arith}
 use lib.Dec.{T, eqb}
 use lib.Ieee.{Float, nan, is_nan}
 use lib.Ieee.Scale.{finite}
-use lib.ListN.{length, drop, length-map, get_or-append}
+use lib.ListN.{length, drop, length-append, length-map, get_or-append}
 use borrow.Author.Tests.{eqb-true, eqb-false}
 use Rattle.le.specs.Le.{paste}
 use Rattle.le.proofs.Chain.{by}
@@ -24,13 +24,12 @@ use Rattle.format.specs.Same.{is_same_head}
 use Rattle.format.specs.declared.Head.{Head}
 use Rattle.format.proofs.Heads.{both}
 use Rattle.segment.specs.Record.{record_ok}
-use Rattle.search_spec.specs.Lent.{Rows, Answers, Call}
+use Rattle.search_spec.specs.Lent.{Rows, Call}
 use Rattle.search_spec.specs.Lists.{original_at, by_original, candidate_rows, listed_rows}
 use Rattle.search_spec.specs.Scan.{record_refusal}
 use Rattle.search_spec.specs.Tests.{front_number}
-use Rattle.search_spec.specs.Outcome.{Outcome, place_of, list_of, filled, late_refusal, outcome_by, searched, returned, Succeeds}
+use Rattle.search_spec.specs.Outcome.{Outcome, place_of, list_of, filled, late_refusal, outcome_by, searched, Searched, returned, Succeeds}
 use Rattle.search_spec.specs.declared.Place.{Place}
-use Rattle.search_spec.specs.declared.Searched.{Searched}
 use Rattle.search_spec.proofs.Passed.{done_front, low-limit, answers_are, count-is}
 use Rattle.search_spec.proofs.Reports.{few-eligible, list_count}
 use Rattle.search_spec.proofs.Keys.{late, records_each}
@@ -49,6 +48,9 @@ numbers_map f (r ∷ rs) h (suc k) l = numbers_map f rs (λ x i. h x (inr i)) k 
 
 numbers_pasted : (d vs : List Float) (n : ℕ) → n ≤ length vs → Numbers vs n → Numbers (paste d 0 vs) n
 numbers_pasted d vs n l h k i = rw (paste-first d vs, get_or-append vs (drop (length vs) d) nan k (omega arith)) (h k i)
+
+held : {A : Type 0} (f : Place → A) (l : List Place) (d : List A) → length l ≤ length (paste d 0 (map f l))
+held f l d = rw (paste-first d (map f l)) (omega (arith, length-append (map f l) (drop (length (map f l)) d), length-map l f))
 
 module _ (head : Head) (rows : Rows) (c : Call) (h : Succeeds (searched head rows c)) where
   abbrev m : List ℕ
@@ -90,6 +92,14 @@ module _ (head : Head) (rows : Rows) (c : Call) (h : Succeeds (searched head row
   unfolding list_of
   list_length = count-is head rows c h ∙ sym (length-map (listed_rows rows c) (place_of c))
 
+  -- there the answer slices are long enough
+  pub places_held : let o = searched head rows c in (o.report.count ≤ length o.answers.ids) × (o.report.count ≤ length o.answers.distances) × (o.report.count ≤ length o.answers.rows)
+  unfolding filled
+  places_held =
+      let l = list_of rows c in
+      let a = c.answers in
+      rw (answers_are head rows c h, list_length) (held (λ p. p.id) l a.ids, held (λ p. p.distance) l a.distances, held (λ p. p.row) l a.rows)
+
   pub numbers_listed : Numbers (searched head rows c).answers.distances (searched head rows c).report.count
   unfolding filled
   numbers_listed =
@@ -120,7 +130,7 @@ module _ (head : Head) (rows : Rows) (c : Call) (p : Outcome) (like : Alike (sea
   unfolding answer_text
   refusal_text_lem h = rw (← refusal_is) (sym (is-other r.refusal (listing p.report (map line_of p.list)) (refusal_text r.refusal) h))
 
-  module _ (h : r.refusal.number ≡ 0) (a : Answers) (f : a ≡ o.answers) where
+  module _ (h : r.refusal.number ≡ 0) where
     succeeds : Succeeds o
     succeeds = rw e at h
 
@@ -130,11 +140,14 @@ module _ (head : Head) (rows : Rows) (c : Call) (p : Outcome) (like : Alike (sea
     pub few-places : length c.manifest ≤ max_file_bytes → r.report.count ≤ most_places
     few-places l = rw report-same (count_most head rows c succeeds l)
 
-    pub places_numbers : Numbers a.distances r.report.count
-    places_numbers = rw (report-same, f) (numbers_listed head rows c succeeds)
+    pub places_fit : (r.report.count ≤ length o.answers.ids) × (r.report.count ≤ length o.answers.distances) × (r.report.count ≤ length o.answers.rows)
+    places_fit = rw report-same (places_held head rows c succeeds)
 
-    pub places_text : listing r.report (lines_of a.ids a.distances a.rows r.report.count) ≡ answer_text p.refusal p.report p.list
+    pub places_numbers : Numbers o.answers.distances r.report.count
+    places_numbers = rw report-same (numbers_listed head rows c succeeds)
+
+    pub places_text : listing r.report (lines_of o.answers.ids o.answers.distances o.answers.rows r.report.count) ≡ answer_text p.refusal p.report p.list
     unfolding answer_text
     places_text =
-        rw (report-same, f, lines-listed head rows c succeeds, like.report, like.list, ← refusal_is)
+        rw (report-same, lines-listed head rows c succeeds, like.report, like.list, ← refusal_is)
         (sym (is_done r.refusal (listing p.report (map line_of p.list)) (refusal_text r.refusal) h))

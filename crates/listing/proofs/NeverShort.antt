@@ -12,8 +12,7 @@ use borrow.Author.Tests.{eqb-true, le-leb}
 use Rattle.le.proofs.Chain.{by}
 use Rattle.crc32.specs.Crc.{ends_in_crc}
 use Rattle.rank.specs.Sort.{sort}
-use Rattle.config.specs.Refusal.{none, refused, then_refusal}
-use Rattle.config.specs.declared.Refusal.{Refusal}
+use Rattle.config.specs.Refusal.{Refusal, none, refused, then_refusal}
 use Rattle.quantization.specs.View.{valid_row}
 use Rattle.quantization.specs.Encoder.{base_levels}
 use Rattle.row.specs.Distance.{approximate}

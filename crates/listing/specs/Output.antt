@@ -2,8 +2,7 @@
 -- checks manifest and segments, opens, then searches all ids").
 use Rattle.std.specs.Prelude.{◌≡◌, false, List, [], map, ℕ, eqb, replicate, Result, Ok, Err}
 use Rattle.float.specs.Values.{plus_zero}
-use Rattle.config.specs.Refusal.{then_refusal, unless_refused}
-use Rattle.config.specs.declared.Refusal.{Refusal}
+use Rattle.config.specs.Refusal.{Refusal, then_refusal, unless_refused}
 use Rattle.format.specs.Fields.{stored_crc}
 use Rattle.cache_format.specs.Sizing.{default_options}
 use Rattle.manifest.specs.Check.{checked}

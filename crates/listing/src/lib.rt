@@ -6,7 +6,7 @@ ghost use Rattle.io.specs.Counts.{IsPrefixLen};
 ghost use Rattle.text.specs.Put.{Put};
 ghost use Rattle.format.specs.Fields.{stored_crc};
 ghost use Rattle.quantized_cache.specs.Open.{open_outcome};
-ghost use Rattle.search_spec.specs.Lent.{call_of, every};
+ghost use Rattle.search_spec.specs.Lent.{call_of, wanted_of};
 ghost use Rattle.search_spec.specs.Kept.{cached};
 ghost use Rattle.listing_text.specs.Listing.{most_places, listing_bytes};
 ghost use Rattle.listing_input.specs.Files.{files_of, all_of};
@@ -14,10 +14,12 @@ ghost use Rattle.listing_input.specs.Parts.{max_file_bytes};
 ghost use Rattle.listing.specs.Output.{admitted, lent_answers, lent_work, call_on, answer_text, list_answer as answer_of, output};
 
 use cache_format::{Location, Options};
-use config::{Refusal, Refused};
+use config::Refused;
+use kept::Cached;
 use listing_input::{Input, InputError, Whole};
 use listing_text::{LISTING_BYTES, MOST_PLACES};
 use quantized_cache::CacheState;
+use search_spec::{Answers, Call, Work};
 use text::Writer;
 
 // The f32s of a QUERY of 65,536 bytes.
@@ -56,54 +58,59 @@ fn admit(
     )
 }
 
-// The search of all ids, and what is printed of it.
+// A search, and what is printed of it.
 fn search(
     state: CacheState,
     manifest: &[u8],
     segments: &[u8],
     cache: &[u8],
+    wanted: Option<&[u64]>,
     query: &[f32],
     k: usize,
     limit: usize,
     out: &mut [u8],
 ) -> usize
     requires { (length manifest.now ≤ max_file_bytes) × (listing_bytes ≤ length out.old) }
-    ensures fact { let o = cached state cache.now (call_of manifest.now segments.now every query.now k limit lent_answers lent_work) in
+    ensures fact { let c = call_of manifest.now segments.now (wanted_of wanted.entry) query.now k limit lent_answers lent_work in
+        let o = cached state cache.now c in
         Put out.old out.new 0 (answer_text o.refusal o.report o.list) result }
     ensures prefix_len { IsPrefixLen result out.new }
 {
+    let kept = Cached { state, cache };
+    let call = Call {
+        manifest,
+        segments,
+        wanted,
+        query,
+        k,
+        limit,
+    };
     let mut keys: [u64; MOST_PLACES] = text::zeros();
     let mut candidates: [u64; MOST_PLACES] = text::zeros();
+    let mut work = Work {
+        keys: &mut keys,
+        candidates: &mut candidates,
+        ids: &mut [],
+    };
     let mut ids: [u64; MOST_PLACES] = text::zeros();
     let mut distances: [f64; MOST_PLACES] = text::zeros();
     let mut rows: [u64; MOST_PLACES] = text::zeros();
     let mut starts: [u64; MOST_PLACES] = text::zeros();
     let mut lengths: [u32; MOST_PLACES] = text::zeros();
-    let r = search::cached(
-        state,
-        manifest,
-        segments,
-        cache,
-        query,
-        k,
-        limit,
-        &mut keys,
-        &mut candidates,
-        &mut ids,
-        &mut distances,
-        &mut rows,
-        &mut starts,
-        &mut lengths,
-    );
-    let refusal = r.refusal;
-    if refusal.number != 0 {
-        return listing_text::write_refusal(out, refusal);
+    let mut answers = Answers {
+        ids: &mut ids,
+        distances: &mut distances,
+        rows: &mut rows,
+        starts: &mut starts,
+        lengths: &mut lengths,
+    };
+    match search::search(kept, &call, &mut work, &mut answers) {
+        Ok(report) => listing_text::write_listing(out, report, &ids, &distances, &rows),
+        Err(refused) => listing_text::write_refusal(out, refused),
     }
-    let report = r.report;
-    listing_text::write_listing(out, report, &ids, &distances, &rows)
 }
 
-// The same with QUERY and CALL as they are read.
+// That of all ids, with QUERY and CALL as they are read.
 fn find(state: CacheState, files: &Whole, out: &mut [u8]) -> usize
     requires { listing_bytes ≤ length out.old }
     ensures fact { let f = files.now in
@@ -121,6 +128,7 @@ fn find(state: CacheState, files: &Whole, out: &mut [u8]) -> usize
         files.manifest,
         files.segments,
         files.cache,
+        None,
         &values[..n],
         k as usize,
         limit as usize,
@@ -142,7 +150,7 @@ fn answer(files: &Whole, out: &mut [u8]) -> usize
     };
     match admit(files.manifest, files.segments, files.cache, location) {
         Ok(state) => find(state, files, out),
-        Err(refused) => listing_text::write_refusal(out, Refusal::from(refused)),
+        Err(refused) => listing_text::write_refusal(out, refused),
     }
 }
 

@@ -16,7 +16,7 @@ use Rattle.le.proofs.Pastes.{paste-first}
 use Rattle.text.specs.Digits.{decimal_in, decimal}
 use Rattle.text.proofs.Decimal.{length_decimal, length_u64}
 use Rattle.text.proofs.Hex.{length_hex16}
-use Rattle.config.specs.declared.Refusal.{Refusal}
+use Rattle.config.specs.Refusal.{Refusal}
 use Rattle.search_spec.specs.declared.Place.{Place}
 use Rattle.search_spec.specs.declared.Report.{Report}
 use Rattle.listing_text.specs.Listing.{Line, place_line, lines, line_of, line_at, lines_of, bit, report_line, listing, refusal_text, most_places, listing_bytes}

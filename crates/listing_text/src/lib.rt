@@ -5,9 +5,10 @@ ghost use Rattle.std.specs.Prelude.{◌≡◌, ◌≤◌, length};
 ghost use Rattle.io.specs.Counts.{IsPrefixLen};
 ghost use Rattle.text.specs.Put.{Put};
 ghost use Rattle.text.specs.Wrote.{HasRoom, Wrote};
+ghost use Rattle.config.specs.Told.{told_by};
 ghost use Rattle.listing_text.specs.Listing.{refusal_text, report_line, place_line, lines, listing, lines_of, Numbers, most_places, listing_bytes};
 
-use config::Refusal;
+use config::Refused;
 use search_spec::Report;
 use text::Writer;
 
@@ -23,14 +24,14 @@ pub fn buffer() -> [u8; LISTING_BYTES]
 }
 
 // Two numbers of 20 digits, and 13 bytes of words.
-pub fn write_refusal(out: &mut [u8], refusal: Refusal) -> usize
+pub fn write_refusal(out: &mut [u8], refused: Refused) -> usize
     requires { 53 ≤ length out.old }
-    ensures put { Put out.old out.new 0 (refusal_text refusal) result }
+    ensures put { Put out.old out.new 0 (refusal_text (told_by refused)) result }
     ensures prefix_len { IsPrefixLen result out.new }
 {
     let mut w = Writer::new(out);
-    w.put_field(b"refused ", refusal.number as u64);
-    w.put_field(b" at ", refusal.place);
+    w.put_field(b"refused ", refused.number.number() as u64);
+    w.put_field(b" at ", refused.place);
     w.put_bytes(b"\n");
     w.len()
 }

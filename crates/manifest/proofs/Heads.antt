@@ -5,7 +5,7 @@ use mathlib.Core.Logic.{◌↔◌}
 use mathlib.Core.List.{List}
 use Prim.Native.Nat.{ℕ}
 use Rattle.le.proofs.LeLaws.{AllBytes}
-use Rattle.config.specs.declared.Refusal.{Refusal}
+use Rattle.config.specs.Refusal.{Refusal}
 use Rattle.config.proofs.Refusals.{is_done}
 use Rattle.format.specs.Head.{head_at, zero_head}
 use Rattle.format.specs.Same.{is_same_head}

@@ -4,7 +4,7 @@ use mathlib.Core.Bool.{true, cond}
 use mathlib.Core.List.{List}
 use Prim.Native.Nat.{ℕ, ◌+◌, ◌≤◌}
 use lib.Dec.{leb, eqb}
-use lib.ListN.{length, take}
+use lib.ListN.{length}
 use borrow.Author.Tests.{leb-true, le-leb, eqb-false, eq-eqb}
 use Rattle.le.proofs.Chain.{by, held}
 use Rattle.config.proofs.Refusals.{not_zero}
@@ -13,7 +13,7 @@ use Rattle.format.specs.Head.{opens_ok, kind_ok, identity_ok, counts_ok, head_nu
 use Rattle.format.proofs.Refusals.{or_else_lem, or_else_not}
 use Rattle.entries.specs.Plan.{rows_ok, crc_ok, plan_number}
 use Rattle.manifest.specs.Tiling.{tiled}
-use Rattle.manifest.specs.Scratch.{row_keys}
+use Rattle.manifest.specs.Scratch.{Filled}
 use Rattle.manifest.proofs.Keys.{take_ordered, length_ordered}
 use Rattle.le.specs.Le.{zeros}
 use Rattle.manifest.specs.Check.{manifest_number, scratch_left, scratch_held}
@@ -58,13 +58,13 @@ left m expected t h =
     (λ e. rw e)
 
 -- an accepted manifest's scratch begins with its rows in order
-pub held_rows : (m : List ℕ) (expected : ℕ) (t : List ℕ) → manifest_number m expected (length t) ≡ 0
-    → (take (rows_of m) (scratch_held m expected t) ≡ row_keys m) × (length (scratch_held m expected t) ≡ length t)
+pub filled : (m : List ℕ) (expected : ℕ) (t : List ℕ) → manifest_number m expected (length t) ≡ 0 → Filled m (scratch_held m expected t)
 unfolding manifest_number scratch_held
-held_rows m expected t h =
+filled m expected t h =
     let a = accepted m expected (length t) h in
     let p = (or_else_lem (plan_number m expected (length t)) (cond (tiled m) 0 4) h).0 in
-    rw (eq-eqb (plan_number m expected (length t)) 0 p, a.1) (take_ordered m t, length_ordered m t a.0.roomy)
+    let r = a.0.roomy in
+    rw (eq-eqb (plan_number m expected (length t)) 0 p, a.1) (record { head = a.0.head; rows = a.0.rows; room = rw (length_ordered m t r) r; order = take_ordered m t })
 
 -- an accepted manifest is accepted with every scratch that is long enough
 pub other-room : (m : List ℕ) (expected room other : ℕ) → manifest_number m expected room ≡ 0 → rows_of m ≤ other → manifest_number m expected other ≡ 0

@@ -2,9 +2,8 @@
 -- slice gives 11 before the tiling test"; all places are 0).
 use Rattle.std.specs.Prelude.{cond, List, ℕ, eqb, length, Result}
 use Rattle.le.specs.Le.{zeros}
-use Rattle.config.specs.Refusal.{refused, unless_refused}
+use Rattle.config.specs.Refusal.{Refusal, refused, unless_refused}
 use Rattle.config.specs.Told.{told, granted}
-use Rattle.config.specs.declared.Refusal.{Refusal}
 use Rattle.config.specs.declared.Refused.{Refused}
 use Rattle.format.specs.Order.{unless, or_else}
 use Rattle.format.specs.Head.{head_at, zero_head}

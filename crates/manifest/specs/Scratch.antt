@@ -1,7 +1,9 @@
 -- How the scratch holds the rows in order: one number a row, the digits of its segment before those of its offset, and these before its
 -- own, so that the order of the numbers is the order by segment and offset. For rows whose entries keep their rules.
-use Rattle.std.specs.Prelude.{cond, List, [], ◌∷◌, ◌++◌, map, ℕ, suc, ◌+◌, ◌*◌, ◌/◌, ◌%◌, ◌^◌, ◌<◌, eqb, length, get_or, drop}
+use Rattle.std.specs.Prelude.{◌≡◌, true, cond, List, [], ◌∷◌, ◌++◌, map, ℕ, suc, ◌+◌, ◌*◌, ◌/◌, ◌%◌, ◌^◌, ◌≤◌, ◌<◌, eqb, length, get_or, take, drop}
 use Rattle.format.specs.Fields.{rows_of, segment_at, offset_at}
+use Rattle.format.specs.Head.{head_number}
+use Rattle.entries.specs.Plan.{rows_ok}
 use Rattle.manifest.specs.Tiling.{physical}
 
 unfoldable pub key : List ℕ → ℕ → ℕ
@@ -29,3 +31,10 @@ run n (k ∷ ks) = cond (eqb (key_segment k) n) (suc (run n ks)) 0
 -- each number's row is below n
 pub record Below (n : ℕ) (ks : List ℕ) : Type 0 where
   pub at : (i : ℕ) → i < length ks → key_row (get_or ks i 0) < n
+
+-- the scratch of an accepted manifest begins with its rows in order
+pub record Filled (m t : List ℕ) : Type 0 where
+  pub head : head_number m ≡ 0
+  pub rows : rows_ok m ≡ true
+  pub room : rows_of m ≤ length t
+  pub order : take (rows_of m) t ≡ row_keys m

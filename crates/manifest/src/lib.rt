@@ -8,7 +8,7 @@ ghost use Rattle.format.specs.Fields.{rows_of};
 ghost use Rattle.format.specs.Head.{head_number};
 ghost use Rattle.entries.specs.Plan.{rows_ok};
 ghost use Rattle.manifest.specs.Tiling.{covers as covered, tiled};
-ghost use Rattle.manifest.specs.Scratch.{key, key_row, row_keys, ordered, run as run_of, Below};
+ghost use Rattle.manifest.specs.Scratch.{key, key_row, row_keys, ordered, run as run_of, Below, Filled};
 ghost use Rattle.manifest.specs.Check.{manifest_number, outcome, checked, scratch_left, scratch_held};
 
 use config::{Number, Refused};
@@ -113,6 +113,7 @@ pub fn accept<'a>(m: &'a [u8], expected: u32, scratch: &mut [u64]) -> Result<Man
     ensures told { numbered result ≡ manifest_number m.now expected (length scratch.old) }
     ensures bytes { IfOk result (λ a. a.bytes.now ≡ m.now) }
     ensures scratch_after { scratch.new ≡ scratch_held m.now expected scratch.old }
+    ensures filled { IfOk result (λ a. Filled a.bytes.now scratch.new) }
 {
     let manifest = entries::plan(m, expected, scratch.len())?;
     order(manifest, scratch);

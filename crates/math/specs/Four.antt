@@ -1,12 +1,13 @@
 -- Four distances in one call (document 01, The arithmetic: "four distances in one call, as `distance_four` gives them,
 -- equal to four original distances").
-use Rattle.std.specs.Prelude.{Bool, cond, ◌&&◌, List, [], ◌∷◌, length, nat_le, Float}
+use Rattle.std.specs.Prelude.{Bool, cond, ◌&&◌, List, [], ◌∷◌, length, nat_le, Float, Result}
 use Rattle.float.specs.Values.{plus_zero, quad}
 use Rattle.config.specs.Limits.{max_dimensions}
-use Rattle.config.specs.Refusal.{none, refused}
+use Rattle.config.specs.Refusal.{Refusal, none, refused}
+use Rattle.config.specs.Told.{numbered, granted}
+use Rattle.config.specs.declared.Number.{Number}
 use Rattle.config.specs.Vector.{valid_vector}
 use Rattle.config.specs.declared.Metric.{Metric}
-use Rattle.math.specs.declared.Four.{Four}
 use Rattle.math.specs.Distance.{original}
 
 -- "equal to four original distances"
@@ -18,6 +19,15 @@ unfoldable pub valid_five : Metric → List Float → List Float → List Float 
 valid_five metric q a b c d =
     let n = length q in
     nat_le 1 n && nat_le n max_dimensions && valid_vector metric n q && valid_vector metric n a && valid_vector metric n b && valid_vector metric n c && valid_vector metric n d
+
+-- a refusal, and four distances
+pub record Four : Type 0 where
+  pub refusal : Refusal
+  pub distances : List Float
+
+-- what the code answers
+abbrev pub four_outcome : Result (List Float) Number → Four
+four_outcome r = record { refusal = refused (numbered r) 0; distances = granted (quad (λ k. plus_zero)) r }
 
 -- Document 01, The arithmetic: "It gives 16 and four +0 unless" they do; place 0 (What each place turns away)
 unfoldable pub distance_four : Metric → List Float → List Float → List Float → List Float → List Float → Four

@@ -11,9 +11,9 @@ ghost use Rattle.config.specs.declared.Metric.TheVariants.{Cosine};
 ghost use Rattle.config.specs.Vector.{floats_at, finites};
 ghost use Rattle.math.specs.Sums.{dot_step, step_of};
 ghost use Rattle.math.specs.Distance.{Readable, inverse, inverse_norm, finished, original};
-ghost use Rattle.math.specs.Four.{original_four, valid_five, distance_four};
+ghost use Rattle.math.specs.Four.{original_four, valid_five, distance_four, four_outcome};
 
-use config::{Metric, Refusal};
+use config::{Metric, Number};
 
 // ---- Coordinates as f64.
 
@@ -146,25 +146,60 @@ fn finish(metric: Metric, sum: f64, q_inverse: f64, norm: f64) -> f64
     }
 }
 
-// A query and the record whose coordinates, all finite, begin at a place.
-pub fn original_distance(metric: Metric, q: &[f64], q_inverse: f64, s: &[u8], at: usize) -> f64
-    requires readable { Readable (length q.now) s.now at }
-    requires q_inverse_value { is_cosine metric ≡ true → q_inverse ≡ inverse_norm q.now }
-    ensures { result ≡ original metric q.now (floats_at (length q.now) s.now at) }
-{
-    let mut sum: f64 = -0.0;
-    let mut norm: f64 = -0.0;
-    let record = Record {
-        bytes: s,
-        at,
-        n: q.len(),
-    };
-    for (i, x) in q.iter().enumerate() {
-        let y = record.at(i);
-        sum = step(metric, sum, *x, y);
-        norm = norm_step(metric, norm, y);
+// A query: the metric, its coordinates as f64, and the inverse of its norm, which cosine alone looks at.
+#[derive(Clone, Copy)]
+pub struct Query<'a> {
+    pub metric: Metric,
+    pub coordinates: &'a [f64],
+    pub inverse: f64,
+    pub ghost inverse_is: { is_cosine metric ≡ true → inverse ≡ inverse_norm coordinates.now },
+}
+
+impl<'a> Query<'a> {
+    // To the record whose coordinates, all finite, begin at a place.
+    pub fn distance(&self, s: &[u8], at: usize) -> f64
+        requires { Readable (length self.now.coordinates.now) s.now at }
+        ensures { result ≡ original self.now.metric self.now.coordinates.now (floats_at (length self.now.coordinates.now) s.now at) }
+    {
+        let mut sum: f64 = -0.0;
+        let mut norm: f64 = -0.0;
+        let record = Record {
+            bytes: s,
+            at,
+            n: self.coordinates.len(),
+        };
+        for (i, x) in self.coordinates.iter().enumerate() {
+            let y = record.at(i);
+            sum = step(self.metric, sum, *x, y);
+            norm = norm_step(self.metric, norm, y);
+        }
+        finish(self.metric, sum, self.inverse, norm)
     }
-    finish(metric, sum, q_inverse, norm)
+
+    // To four records of one slice, by their places.
+    #[tactic(auto, using(config::proofs::Vectors::length_floats))]
+    pub fn distance_four(&self, s: &[u8], a: usize, b: usize, c: usize, d: usize) -> [f64; 4]
+        requires { Readable (length self.now.coordinates.now) s.now a × Readable (length self.now.coordinates.now) s.now b
+            × Readable (length self.now.coordinates.now) s.now c × Readable (length self.now.coordinates.now) s.now d }
+        ensures { (let at : ℕ → List Float = λ p. floats_at (length self.now.coordinates.now) s.now p in
+            result ≡ original_four self.now.metric self.now.coordinates.now (at a) (at b) (at c) (at d)) }
+    {
+        let n = self.coordinates.len();
+        let a = Record { bytes: s, at: a, n };
+        let b = Record { bytes: s, at: b, n };
+        let c = Record { bytes: s, at: c, n };
+        let d = Record { bytes: s, at: d, n };
+        measure_four(
+            self.metric,
+            n,
+            &self.coordinates,
+            Some(self.inverse),
+            &a,
+            &b,
+            &c,
+            &d,
+        )
+    }
 }
 
 // ---- Four distances: four records' sums and norms at once, each in its own order.
@@ -248,30 +283,6 @@ fn measure_four<X: Coordinates, Y: Coordinates>(
     finish_four(metric, sums, q_inverse, norms)
 }
 
-// A query and four records of one slice, by their places.
-pub fn original_four(
-    metric: Metric,
-    q: &[f64],
-    q_inverse: f64,
-    s: &[u8],
-    a: usize,
-    b: usize,
-    c: usize,
-    d: usize,
-) -> [f64; 4]
-    requires readable { Readable (length q.now) s.now a × Readable (length q.now) s.now b × Readable (length q.now) s.now c
-        × Readable (length q.now) s.now d }
-    requires q_inverse_value { is_cosine metric ≡ true → q_inverse ≡ inverse_norm q.now }
-    ensures { result ≡ original_four metric q.now (floats_at (length q.now) s.now a) (floats_at (length q.now) s.now b) (floats_at (length q.now) s.now c) (floats_at (length q.now) s.now d) }
-{
-    let n = q.len();
-    let a = Record { bytes: s, at: a, n };
-    let b = Record { bytes: s, at: b, n };
-    let c = Record { bytes: s, at: c, n };
-    let d = Record { bytes: s, at: d, n };
-    measure_four(metric, n, &q, Some(q_inverse), &a, &b, &c, &d)
-}
-
 // Whether all five vectors have one length of 1 to 4096 and pass the vector test. (Five calls: with `all` over an array of them the proof does not close.)
 fn valid_five(metric: Metric, query: &[f32], a: &[f32], b: &[f32], c: &[f32], d: &[f32]) -> bool
     ensures { result ≡ valid_five metric query.now a.now b.now c.now d.now }
@@ -286,13 +297,8 @@ fn valid_five(metric: Metric, query: &[f32], a: &[f32], b: &[f32], c: &[f32], d:
         & config::validate_vector(metric, n, d)
 }
 
-// Four distances, or a refusal and four +0.
-#[derive(Clone, Copy)]
-pub struct Four {
-    pub refusal: Refusal,
-    pub distances: [f64; 4],
-}
-
+// Four distances; 16 where a vector is refused.
+#[tactic(auto, using(crate::proofs::Fours::valid_five_lem), unfolding(crate::specs::Four::distance_four))]
 pub fn distance_four(
     metric: Metric,
     query: &[f32],
@@ -300,23 +306,12 @@ pub fn distance_four(
     b: &[f32],
     c: &[f32],
     d: &[f32],
-) -> Four
-    ensures { result ≡ distance_four metric query.now a.now b.now c.now d.now }
+) -> Result<[f64; 4], Number>
+    ensures { four_outcome result ≡ distance_four metric query.now a.now b.now c.now d.now }
 {
-    if valid_five(metric, query, a, b, c, d) {
-        return Four {
-            refusal: Refusal {
-                number: 0,
-                place: 0,
-            },
-            distances: measure_four(metric, query.len(), &query, None, &a, &b, &c, &d),
-        };
+    if !valid_five(metric, query, a, b, c, d) {
+        return Err(Number::Query);
     }
-    Four {
-        refusal: Refusal {
-            number: 16,
-            place: 0,
-        },
-        distances: [0.0, 0.0, 0.0, 0.0],
-    }
+    let n = query.len();
+    Ok(measure_four(metric, n, &query, None, &a, &b, &c, &d))
 }

@@ -12,8 +12,7 @@ use Rattle.le.proofs.Chain.{held}
 use Rattle.le.proofs.LeLaws.{length_bytes}
 use Rattle.le.proofs.Pastes.{paste-first, paste-next}
 use Rattle.crc32.specs.Crc.{crc32}
-use Rattle.config.specs.Refusal.{none, refused, refused_or}
-use Rattle.config.specs.declared.Refusal.{Refusal}
+use Rattle.config.specs.Refusal.{Refusal, none, refused, refused_or}
 use Rattle.config.specs.declared.Refused.{Refused}
 use Rattle.config.specs.Told.{number_of, told}
 use Rattle.config.proofs.Numbers.{some_number}

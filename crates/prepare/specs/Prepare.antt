@@ -1,9 +1,8 @@
 -- Preparing (document 01, What each place turns away: "Preparing: 10, 7, 8, 9, 11, then 5 for the lowest bad row, all before the first byte
 -- is stored", after the manifest is tested anew; "11: a lent slice too short (added)": "a cache under its size").
 use Rattle.std.specs.Prelude.{List, ◌++◌, ℕ, ◌*◌, leb, drop, Result}
-use Rattle.config.specs.Refusal.{refused_or, unless_refused}
+use Rattle.config.specs.Refusal.{Refusal, refused_or, unless_refused}
 use Rattle.config.specs.Told.{told, granted}
-use Rattle.config.specs.declared.Refusal.{Refusal}
 use Rattle.config.specs.declared.Refused.{Refused}
 use Rattle.quantization.specs.Encoder.{base_levels, midpoints}
 use Rattle.format.specs.Order.{unless}

@@ -7,12 +7,14 @@ use native.Mathlib.Nat.{suc-mul, mul-le-mul}
 use native.Mathlib.Omega.{arith}
 use lib.ListN.{length}
 use lib.Dec.{eqb}
+use lib.IntN.{ℤ}
 use Rattle.std.specs.Prelude.{Some}
 use Rattle.std.proofs.lemmas.Option.{none-some, same_Some}
 use Rattle.le.proofs.Chain.{by, held}
 use Rattle.config.specs.Told.{found}
 use Rattle.config.specs.declared.Metric.{Metric}
-use Rattle.quantization.specs.View.{row_at, valid_row}
+use Rattle.quantization.specs.View.{valid_row}
+use Rattle.row.specs.Answer.{view_of}
 use Rattle.format.specs.Fields.{dimensions_of, rows_of}
 use Rattle.config.proofs.Refusals.{not_zero}
 use Rattle.format.proofs.Refusals.{or_else_lem}
@@ -21,7 +23,7 @@ use Rattle.cache_format.specs.Open.{cache_head_ok, cache_head_number}
 use Rattle.cache_format.specs.declared.Options.{Options}
 use Rattle.cache_format.proofs.Opens.{head-long}
 use Rattle.quantized_cache.specs.Size.{size_of, size_number}
-use Rattle.quantized_cache.specs.Open.{row_start, RoomFor, cached_ok, open_number}
+use Rattle.quantized_cache.specs.Open.{row_start, RoomFor, cached_at, cached_ok, open_number}
 use Rattle.quantized_cache.proofs.Sizes.{Passed, passed}
 
 -- row n of a cache with room for all rows: the next starts where it ends, and it ends before the CRC-32
@@ -42,10 +44,10 @@ lies size rows dimensions n h l =
 pub first-start : (size rows dimensions : ℕ) → size - 4 - rows * row_length dimensions ≡ row_start size rows dimensions 0
 first-start size rows dimensions = let e : rows - 0 ≡ rows = omega arith in rw e
 
-pub ok_at : (levels : ℕ) (metric : Metric) (rows dimensions : ℕ) (cache : List ℕ) (n : ℕ) {at : ℕ} → at ≡ row_start (length cache) rows dimensions n
-    → valid_row levels metric (row_at dimensions cache at) ≡ cached_ok levels metric rows dimensions cache n
+pub ok_row : (levels : ℕ) (metric : Metric) (rows dimensions : ℕ) (cache : List ℕ) (n : ℕ) {xs : List ℤ} → let r = cached_at rows dimensions cache n in xs ≡ r.codes
+    → valid_row levels metric (view_of r.scale r.norm xs) ≡ cached_ok levels metric rows dimensions cache n
 unfolding cached_ok
-ok_at levels metric rows dimensions cache n e = rw e
+ok_row levels metric rows dimensions cache n e = rw e
 
 -- what the walk over the rows finds: the lowest that is bad, or none
 pub some_bad : (n first : ℕ) {bad : ℕ} → Some bad ≡ found n first → (eqb first n ≡ false) × (bad ≡ first)

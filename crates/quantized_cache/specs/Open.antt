@@ -3,10 +3,9 @@
 -- 14", here "otherwise 0").
 use Rattle.std.specs.Prelude.{Bool, cond, ◌&&◌, List, ℕ, ◌+◌, ◌-◌, ◌*◌, ◌≤◌, eqb, leb, length, Result}
 use Rattle.crc32.specs.Crc.{ends_in_crc}
-use Rattle.config.specs.Refusal.{none, refused, refused_or, refused_at, unless_refused}
+use Rattle.config.specs.Refusal.{Refusal, none, refused, refused_or, refused_at, unless_refused}
 use Rattle.config.specs.Told.{told, granted}
 use Rattle.config.specs.declared.Metric.{Metric}
-use Rattle.config.specs.declared.Refusal.{Refusal}
 use Rattle.config.specs.declared.Refused.{Refused}
 use Rattle.quantization.specs.View.{View, row_at, valid_row}
 use Rattle.quantization.specs.Encoder.{base_levels}

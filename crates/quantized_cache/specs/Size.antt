@@ -1,8 +1,7 @@
 -- Sizing as an entry (readings R16: it "takes the manifest and tests it anew (then 10, 7, 8, 9)"; all places are 0).
 use Rattle.std.specs.Prelude.{cond, List, ℕ, eqb, length, Result}
-use Rattle.config.specs.Refusal.{refused}
+use Rattle.config.specs.Refusal.{Refusal, refused}
 use Rattle.config.specs.Told.{told, granted}
-use Rattle.config.specs.declared.Refusal.{Refusal}
 use Rattle.config.specs.declared.Refused.{Refused}
 use Rattle.format.specs.Order.{or_else}
 use Rattle.format.specs.Fields.{dimensions_of, rows_of}

@@ -1,17 +1,20 @@
 // A cache of quantized rows: quantized_cache.rs's sizing and `CachedQuantizedSnapshot::open`, over lent slices.
 #![tactic(auto)]
 
-ghost use Rattle.std.specs.Prelude.{◌≡◌, ◌≤◌, length, IfOk};
+ghost use Rattle.std.specs.Prelude.{◌≡◌, ◌≤◌, ◌<◌, length, IfOk};
 ghost use Rattle.config.specs.Told.{told, numbered, found};
 ghost use Rattle.quantization.specs.Encoder.{Levels, base_levels};
 ghost use Rattle.format.specs.Fields.{dimensions_of, rows_of, metric_at};
 ghost use Rattle.manifest.specs.Check.{scratch_left};
 ghost use Rattle.quantized_cache.specs.Size.{sizing_of, size_of, size_number, size_outcome, sized};
-ghost use Rattle.quantized_cache.specs.Open.{row_start, RoomFor, bad_row, content_refusal, open_number, cache_length_ok, open_outcome, opened};
+ghost use Rattle.codes.specs.Codes.{codes};
+ghost use Rattle.row.specs.Read.{read_of};
+ghost use Rattle.quantized_cache.specs.Open.{row_start, RoomFor, cached_at, bad_row, content_refusal, open_number, cache_length_ok, open_outcome, opened};
 
 use cache_format::{Identity, Location, Options};
 use config::{Metric, Number, Refused};
 use format::{Head, Manifest};
+use quantization::Row;
 
 // What opening hands to a search: the manifest's head and the cache's length.
 #[derive(Clone, Copy)]
@@ -92,14 +95,34 @@ impl<'a> CachedRows<'a> {
         self.cache.len() - 4 - (self.rows - row) * cache_format::row_length(self.dimensions)
     }
 
+    // A row's scale and norm, where its scale passes.
+    #[tactic(auto, unfolding(quantization::specs::View::row_at))]
+    pub fn read(&self, row: usize) -> Option<Row>
+        requires { row < self.now.rows }
+        ensures { let r = cached_at self.now.rows self.now.dimensions self.now.cache.now row in result ≡ read_of r.scale r.norm }
+    {
+        row::read_row(self.cache, self.start(row))
+    }
+
+    // And its codes.
+    #[tactic(auto, using(codes::proofs::Rows::cut_bytes), unfolding(quantization::specs::View::row_at))]
+    pub fn codes(&self, row: usize) -> &[u8]
+        requires { row < self.now.rows }
+        ensures values { codes result.now ≡ (cached_at self.now.rows self.now.dimensions self.now.cache.now row).codes }
+        ensures as_many { length result.now ≡ self.now.dimensions }
+    {
+        let from = self.start(row) + 16;
+        let end = from + self.dimensions;
+        &self.cache[from..end]
+    }
+
     // The lowest invalid row.
     fn bad_row(self, levels: u32, metric: Metric) -> Option<usize>
         requires { Levels levels }
         ensures { result ≡ found self.entry.rows (bad_row levels metric self.entry.rows self.entry.dimensions self.entry.cache.now) }
     {
         for row in 0..self.rows {
-            let at = self.start(row);
-            if !row::holds(levels, metric, self.cache, at, self.dimensions) {
+            if !row::holds(levels, metric, self.read(row), self.codes(row)) {
                 return Some(row);
             }
         }

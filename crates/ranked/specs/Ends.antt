@@ -1,15 +1,21 @@
 -- Between functions: what they promise one another. No contract of an entry and no theorem rests on this file.
 -- How the part of a call past 20 ends (document 01, The report), and the room that it has.
-use Rattle.std.specs.Prelude.{◌≡◌, Bool, cond, List, ℕ, ◌≤◌}
-use Rattle.config.specs.Refusal.{then_refusal, unless_refused}
-use Rattle.config.specs.declared.Refusal.{Refusal}
+use Rattle.std.specs.Prelude.{◌≡◌, Bool, cond, List, ℕ, ◌≤◌, Option}
+use denote.Bor.{Bor}
+use Rattle.config.specs.Refusal.{Refusal, then_refusal, unless_refused}
 use Rattle.search_spec.specs.declared.Room.{Room}
-use Rattle.search_spec.specs.Lent.{Rows, Answers, Call}
+use Rattle.search_spec.specs.declared.Call.{Call as CallAsLent}
+use Rattle.search_spec.specs.declared.Answers.{Answers as AnswersAsLent}
+use Rattle.search_spec.specs.Lent.{Rows, Answers, Work, Call, wanted_of, answers_in, call_of}
 use Rattle.search_spec.specs.Lists.{is_eligible, eligible_rows, candidate_rows, listed_rows}
 use Rattle.search_spec.specs.Scan.{scan_refusal, records_refusal}
 use Rattle.search_spec.specs.Outcome.{no_report, report_of, list_of, same_places, filled}
 use Rattle.agreement.specs.Count.{all_ranked}
-use Rattle.answers.specs.declared.Answered.{Answered}
+use Rattle.answers.specs.Report.{AnswerOutcome}
+
+-- a call, of its parts as they are lent, where these ids are wanted
+abbrev pub lent_call : CallAsLent → Option (Bor (List ℕ)) → AnswersAsLent → Work → Call
+lent_call c wanted a w = call_of c.manifest.now c.segments.now (wanted_of wanted) c.query.now c.k c.limit (answers_in a) w
 
 -- n answers and l candidates have room
 pub record Fits (n l : ℕ) (r : Room) : Type 0 where
@@ -35,6 +41,6 @@ count_of agree rows c =
     cond agree (same_places (listed_rows rows c) (all_ranked c.manifest c.segments c.query (is_eligible c.wanted c.allowed c.manifest))) 0
 
 -- with this refusal, or none: what is returned, and what the answer slices hold
-pub record Ends (agree : Bool) (rows : Rows) (c : Call) (refusal : Refusal) (r : Answered) (a : Answers) : Type 0 where
+pub record Ends (agree : Bool) (rows : Rows) (c : Call) (refusal : Refusal) (r : AnswerOutcome) (a : Answers) : Type 0 where
   pub is : r ≡ record { refusal = refusal; report = unless_refused refusal (report_of rows c) no_report; agreement = unless_refused refusal (count_of agree rows c) 0 }
   pub leaves : a ≡ unless_refused refusal (filled (list_of rows c) c.answers) c.answers

@@ -1,98 +1,66 @@
 // A call past all tests of what is lent: the candidates, and of them the list, written into the answer slices, with its report.
 #![tactic(auto)]
 
-ghost use Rattle.std.specs.Prelude.{◌≡◌, true, [], ◌≤◌, min, leb};
-ghost use Rattle.rank.specs.Sort.{Ascending};
-ghost use Rattle.format.specs.Layout.{LaidOut};
-ghost use Rattle.entries.specs.Plan.{rows_ok};
-ghost use Rattle.search_spec.specs.Lent.{answers_of, work_of, given, call_of};
+ghost use Rattle.std.specs.Prelude.{◌≡◌, true, [], ◌≤◌, ◌<◌, min};
+ghost use Rattle.search_spec.specs.Lent.{Rows as Seen, base, answers_in, work_of, wanted_of, SameAnswers};
 ghost use Rattle.search_spec.specs.Tests.{query_ok, room_of};
-ghost use Rattle.kept.specs.Seen.{seen};
-ghost use Rattle.ranked.specs.Ends.{Fits, Ends, rest_refusal};
+ghost use Rattle.eligible.specs.Walk.{Sorted};
+ghost use Rattle.ranked.specs.Ends.{Fits, Ends, lent_call, rest_refusal};
+ghost use Rattle.answers.specs.Report.{answered};
 
 use answers::Answered;
-use format::{Layout, Manifest};
-use kept::Kept;
+use config::Refused;
+use entries::Table;
+use scan::Rows;
+use search_spec::{Answers, Call};
+use segment::Library;
 
-// Past the length.
-pub fn ranked(
-    kept: Kept,
+// Past the length; `wanted` are the ids handed in, sorted.
+pub fn ranked<R: Rows>(
+    rows: R,
     agree: bool,
-    m: &[u8],
-    layout: Layout,
-    segments: &[u8],
-    cache: &[u8],
-    codes: &[i8],
-    scales: &[f64],
-    norms: &[i64],
-    all: bool,
-    sorted: &[u64],
-    query: &[f32],
-    k: usize,
-    limit: usize,
+    table: Table<'_>,
+    call: &Call<'_>,
+    wanted: Option<&[u64]>,
     keys: &mut [u64],
     candidates: &mut [u64],
-    ids: &mut [u64],
-    distances: &mut [f64],
-    rows: &mut [u64],
-    places: &mut [u64],
-    lengths: &mut [u32],
-) -> Answered
-    requires laid_out { LaidOut m.now layout × (rows_ok m.now ≡ true)
-        × ((seen kept m.now cache.now codes.now scales.now norms.now).length_ok ≡ true) × (k ≡ 0 → ⊥) × (k ≤ limit) }
-    requires ascending { Ascending leb sorted.now
-        × (query_ok m.now query.now ≡ true)
-        × Fits (min k layout.rows) (min limit layout.rows) (room_of (answers_of ids.old distances.old rows.old places.old lengths.old) (work_of keys.old candidates.old [])) }
-    ensures { let a = answers_of ids.old distances.old rows.old places.old lengths.old in
-        let w = work_of keys.old candidates.old [] in
-        let c = call_of m.now segments.now (given all sorted.now) query.now k limit a w in
-        let v = seen kept m.now cache.now codes.now scales.now norms.now in
-        Ends agree v c (rest_refusal agree v c) result (answers_of ids.new distances.new rows.new places.new lengths.new) }
+    answers: &mut Answers<'_>,
+) -> Result<Answered, Refused>
+    requires call { (table.manifest.bytes.now ≡ call.now.manifest.now) × (0 < call.now.k) × (call.now.k ≤ call.now.limit)
+        × (query_ok call.now.manifest.now call.now.query.now ≡ true) × Sorted (wanted_of wanted) }
+    requires rows { (R.count rows ≡ table.manifest.layout.rows) × (R.width rows ≡ table.manifest.layout.dimensions) }
+    requires fits { let r = room_of (answers_in answers.old) (work_of keys.old candidates.old []) in
+        Fits (min call.now.k table.manifest.layout.rows) (min call.now.limit table.manifest.layout.rows) r }
+    ensures fact { let c = lent_call call.now wanted.entry answers.old (work_of keys.old candidates.old []) in
+        (v : Seen) → v.encoding ≡ base → v.length_ok ≡ true → v.at ≡ R.at rows
+        → Ends agree v c (rest_refusal agree v c) (answered result) (answers_in answers.new) }
+    ensures same_references { SameAnswers answers.old answers.new }
 {
-    let starts = segment::starts(Manifest { bytes: m, layout });
-    let n = front::lesser(limit, layout.rows);
+    let m = table.manifest;
+    let starts = segment::starts(m);
+    let library = Library {
+        manifest: m,
+        metric: m.metric(),
+        starts: &starts,
+        segments: call.segments,
+    };
+    let n = call.limit.min(m.layout.rows);
     let found = kept::find(
-        kept,
+        rows,
         agree,
-        k,
+        call.k,
         quantization::BASE_LEVELS,
-        m,
-        layout,
-        &starts,
-        segments,
-        cache,
-        codes,
-        scales,
-        norms,
-        all,
-        sorted,
-        query,
+        library,
+        wanted,
+        call.query,
         &mut keys[..n],
         &mut candidates[..n],
-    );
-    let refusal = found.refusal;
-    if refusal.number != 0 {
-        return answers::turned_away(refusal);
-    }
-    let measured = found.measured;
-    let count = front::lesser(k, measured);
-    answers::write(
-        m,
-        layout,
-        &starts,
-        &keys[..count],
-        &candidates[..count],
-        ids,
-        distances,
-        rows,
-        places,
-        lengths,
-    );
-    let eligible = found.eligible;
-    let report = answers::report_of(m, eligible, measured, limit < eligible, count);
-    Answered {
-        refusal: refusal,
-        report: report,
+    )?;
+    let count = call.k.min(found.measured);
+    answers::write(&library, &keys[..count], &candidates[..count], answers);
+    let approximate = call.limit < found.eligible;
+    Ok(Answered {
+        report: answers::report_of(m, found.eligible, found.measured, approximate, count),
         agreement: found.agreement,
-    }
+    })
 }

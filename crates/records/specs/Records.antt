@@ -4,10 +4,8 @@ use Rattle.std.specs.Prelude.{Bool, true, cond, ◌&&◌, List, map, ℕ, leb, l
 use Rattle.std.specs.Float.{nan}
 use Rattle.le.specs.Le.{paste}
 use Rattle.rank.specs.Rows.{passing}
-use Rattle.config.specs.Refusal.{none, refused, unless_refused}
-use Rattle.config.specs.declared.Refusal.{Refusal}
+use Rattle.config.specs.Refusal.{Refusal, none, refused, unless_refused}
 use Rattle.records.specs.declared.Record.{Record}
-use Rattle.records.specs.declared.Plan.{Plan}
 
 -- of a count and the lengths of ids, distances, rows and the slice of records
 abbrev pub records_room_ok : ℕ → ℕ → ℕ → ℕ → ℕ → Bool
@@ -31,7 +29,3 @@ listed_upto ids distances rows n = map (place_record ids distances rows) (passin
 abbrev pub handed_out : List ℕ → List Float → List ℕ → ℕ → List Record → List Record
 handed_out ids distances rows count out =
     unless_refused (hand_out_refusal ids distances rows count (length out)) (paste out 0 (listed_upto ids distances rows count)) out
-
--- how many are handed out, and the refusal: what `records` goes by
-abbrev pub plan_of : ℕ → ℕ → ℕ → ℕ → ℕ → Plan
-plan_of count ids distances rows room = record { count = cond (records_room_ok count ids distances rows room) count 0; refusal = room_refusal count ids distances rows room }

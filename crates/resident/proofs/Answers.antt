@@ -15,8 +15,7 @@ use Rattle.std.proofs.lemmas.Result.{err_from_is_err_and}
 use Rattle.config.specs.Told.{number_of, told}
 use Rattle.config.specs.declared.Refused.{Refused}
 use Rattle.config.proofs.Numbers.{some_number}
-use Rattle.config.specs.Refusal.{none, refused, refused_or}
-use Rattle.config.specs.declared.Refusal.{Refusal}
+use Rattle.config.specs.Refusal.{Refusal, none, refused, refused_or}
 use Rattle.format.specs.Fields.{dimensions_of, rows_of}
 use Rattle.format.proofs.Heads.{both}
 use Rattle.cache_format.specs.Sizing.{codes_ok}

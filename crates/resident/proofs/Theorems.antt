@@ -14,8 +14,7 @@ use borrow.Author.Tests.{eqb-false, eq-eqb}
 use Rattle.le.proofs.Chain.{by, held}
 use Rattle.le.proofs.LeLaws.{AllBytes}
 use Rattle.le.proofs.Pastes.{paste-first}
-use Rattle.config.specs.Refusal.{none, refused}
-use Rattle.config.specs.declared.Refusal.{Refusal}
+use Rattle.config.specs.Refusal.{Refusal, none, refused}
 use Rattle.config.proofs.Refusals.{or_none, none-refused, is_done}
 use Rattle.quantization.specs.View.{valid_row}
 use Rattle.quantization.specs.Encoder.{base_levels, midpoints}

@@ -4,9 +4,8 @@
 use Rattle.std.specs.Prelude.{Bool, ◌&&◌, List, [], ◌∷◌, ℕ, ◌*◌, leb, eqb, ℤ, pos, get_or, Float, Result}
 use Rattle.std.specs.Float.{nan}
 use Rattle.le.specs.Le.{paste, joined}
-use Rattle.config.specs.Refusal.{refused_or, unless_refused}
+use Rattle.config.specs.Refusal.{Refusal, refused_or, unless_refused}
 use Rattle.config.specs.Told.{told, granted}
-use Rattle.config.specs.declared.Refusal.{Refusal}
 use Rattle.config.specs.declared.Refused.{Refused}
 use Rattle.format.specs.Order.{unless}
 use Rattle.format.specs.Fields.{dimensions_of, rows_of}

@@ -7,7 +7,8 @@ use lib.Dec.{T}
 use lib.Ieee.{Float, nan, inf, fin}
 use lib.Ieee.Scale.{finite}
 use Rattle.config.specs.Refusal.{none, refused}
-use Rattle.config.specs.declared.Refusal.{Refusal}
+use Rattle.config.specs.declared.Refused.{Refused as Why}
+use Rattle.config.specs.Told.{number_of}
 use Rattle.row.specs.Answer.{refusal_of, value_of, measured, answer}
 use Rattle.row.specs.declared.RowAnswer.{RowAnswer}
 use Rattle.row.specs.declared.RowAnswer.TheVariants.{Distance, PassedOver, Refused}
@@ -74,7 +75,7 @@ passes_over true true place (inf s) e = absurd (true≢false (ap is_passed e))
 passes_over true true place (fin s m d) e = absurd (true≢false (ap is_passed e))
 
 -- a refusal has a number
-pub refuses : (valid eligible : Bool) (place : ℕ) (a : Float) {f : Refusal} → Refused f ≡ answer valid eligible place a → f.number ≡ 0 → ⊥
+pub refuses : (valid eligible : Bool) (place : ℕ) (a : Float) {f : Why} → Refused f ≡ answer valid eligible place a → number_of f.number ≡ 0 → ⊥
 unfolding answer measured
 refuses false eligible place a e z = let k = ap (λ r. (refusal_of r).number) e in omega (arith, k, z)
 refuses true false place a e z = true≢false (ap is_passed (sym e))

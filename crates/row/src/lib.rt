@@ -12,13 +12,12 @@ ghost use Rattle.row.specs.Distance.{squared_l2, inner_product, cosine_by, dista
 ghost use Rattle.row.specs.Read.{read_of, scale_test, sums_test};
 ghost use Rattle.row.specs.Over.{is_over};
 ghost use Rattle.row.specs.Answer.{measured as measured_of, answer, view_of};
-ghost use Rattle.config.specs.Refusal.{refused as refused_at};
 ghost use Rattle.codes.specs.Codes.{part};
 ghost use Rattle.quantization.specs.View.{row_at, row_test, valid_row};
 ghost use Rattle.quantization.specs.Encoder.{Levels};
 
-use codes::{Check, Sums};
-use config::{Metric, Refusal};
+use codes::{Check, Code, Sums};
+use config::{Metric, Number, Refused};
 use quantization::Row;
 
 // A query: its scale and norm, and the root of the norm, which is taken once a search.
@@ -46,7 +45,7 @@ impl Query {
 pub enum RowAnswer {
     Distance(f64),
     PassedOver,
-    Refused(Refusal),
+    Refused(Refused),
 }
 
 // A whole number that a float holds exactly. Not `n as f64` at each use: here alone it is proved that the cast is exact.
@@ -156,49 +155,22 @@ pub fn read_row(cache: &[u8], at: usize) -> Option<Row>
     None
 }
 
-// The row test, of the row of n codes at a place of a cache.
-pub fn holds(levels: u32, metric: Metric, cache: &[u8], at: usize, n: usize) -> bool
-    requires { (at + 16 + n ≤ length cache.now) × (n ≤ 4096) × Levels levels }
-    ensures { result ≡ valid_row levels metric (row_at n cache.now at) }
+// The row test, of what was read of a row, and its codes.
+pub fn holds<C: Code>(levels: u32, metric: Metric, read: Option<Row>, codes: &[C]) -> bool
+    requires { (length codes.now ≤ 4096) × Levels levels }
+    ensures { (scale : _) (norm : _) → read ≡ read_of scale norm → result ≡ valid_row levels metric (view_of scale norm (C.codes_of codes.now)) }
 {
-    match read_row(cache, at) {
-        Some(row) => sums_hold(
-            metric,
-            row,
-            codes::row_check(levels as u8, &cache[at + 16..at + 16 + n]),
-        ),
+    match read {
+        Some(row) => sums_hold(metric, row, codes::row_check(levels as u8, codes)),
         None => false,
     }
 }
 
-// The same of a resident row, its codes from at on.
-pub fn holds_resident(
-    levels: u32,
-    metric: Metric,
-    codes: &[i8],
-    at: usize,
-    row: Row,
-    n: usize,
-) -> bool
-    requires { (at + n ≤ length codes.now) × (n ≤ 4096) × Levels levels }
-    ensures { result ≡ valid_row levels metric (view_of row.scale row.norm (part n codes.now at)) }
-{
-    valid(
-        levels,
-        metric,
-        row,
-        codes::row_check(levels as u8, &codes[at..at + n]),
-    )
-}
-
 // ---- What a row yields.
-fn refused(number: u32, place: u64) -> RowAnswer
-    ensures { result ≡ RowAnswer.Refused (refused_at number place) }
+fn refused(number: Number, place: u64) -> RowAnswer
+    ensures { result ≡ RowAnswer.Refused (record { number = number; place = place }) }
 {
-    RowAnswer::Refused(Refusal {
-        number: number,
-        place: place,
-    })
+    RowAnswer::Refused(Refused { number, place })
 }
 
 fn measured(x: f64, place: u64) -> RowAnswer
@@ -207,7 +179,7 @@ fn measured(x: f64, place: u64) -> RowAnswer
     if float::is_finite(x) {
         return RowAnswer::Distance(x);
     }
-    refused(22, place)
+    refused(Number::Approximate, place)
 }
 
 // A row that is not eligible: its distance is not looked at.
@@ -217,7 +189,7 @@ pub fn passed_over(valid: bool, place: u64) -> RowAnswer
     if valid {
         return RowAnswer::PassedOver;
     }
-    refused(21, place)
+    refused(Number::Changed, place)
 }
 
 // An eligible row whose scale has passed, from its sums: the rest of the row test, then the distance.
@@ -227,7 +199,7 @@ fn scaled_row(metric: Metric, row: Row, sums: Sums, query: Query, place: u64) ->
     if sums_hold(metric, row, sums.check) {
         return measured(approximate_distance(metric, row, query, sums.dot), place);
     }
-    refused(21, place)
+    refused(Number::Changed, place)
 }
 
 // An eligible row from its sums.
@@ -244,5 +216,5 @@ pub fn summed_row(
     if scale_holds(row.scale) {
         return scaled_row(metric, row, sums, query, place);
     }
-    refused(21, place)
+    refused(Number::Changed, place)
 }

@@ -1,3 +1,3 @@
 pub mod Far
-pub mod Scan
+pub mod ScanLaws
 pub mod Going

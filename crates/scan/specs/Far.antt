@@ -9,7 +9,7 @@ use Rattle.float.specs.Order.{key_of, bits_of}
 use Rattle.root.specs.SquareRoot.{sqrt_of}
 use Rattle.config.specs.Metric.{is_cosine}
 use Rattle.config.specs.declared.Metric.{Metric}
-use Rattle.config.specs.declared.Refusal.{Refusal}
+use Rattle.config.specs.declared.Refused.{Refused as Why}
 use Rattle.row.specs.declared.RowAnswer.{RowAnswer}
 use Rattle.row.specs.declared.RowAnswer.TheVariants.{Distance, PassedOver, Refused}
 use Rattle.cosine.specs.Far.{Far}
@@ -34,5 +34,5 @@ pub record TurnedAway (norm : ℤ) (bound : Float) (t : ℕ) (v : Bool) (x : Flo
 -- r is what is said of a row whose answer is a
 pub record Entered (top : ℕ) (a r : RowAnswer) : Type 0 where
   pub measured : {x : Float} → r ≡ Distance x → a ≡ Distance x
-  pub refused : {f : Refusal} → r ≡ Refused f → a ≡ Refused f
+  pub refused : {f : Why} → r ≡ Refused f → a ≡ Refused f
   pub passed : r ≡ PassedOver → (a ≡ PassedOver) ⊎ Over top a

@@ -3,46 +3,40 @@
 // length is the limit.
 #![tactic(auto)]
 
-ghost use Rattle.std.specs.Prelude.{◌≡◌, true, not, ◌&&◌, cond, ◌+◌, ◌*◌, ◌≤◌, ◌<◌, T, leb, pos, nat_abs, length, get_or};
-ghost use Rattle.std.specs.Float.{binary64, nan};
-ghost use Rattle.std.specs.Float.Ieee.{of_int, is_nan, of_bits, to_bits};
-ghost use Rattle.std.specs.Int.{w64};
-ghost use Rattle.std.proofs.Common.{to_z};
-ghost use Rattle.le.specs.Le.{le_at};
+ghost use Rattle.std.specs.Prelude.{◌≡◌, ℕ, true, not, ◌&&◌, ◌≤◌, ◌<◌, T, length};
+ghost use Rattle.std.specs.Float.{binary64};
+ghost use Rattle.std.specs.Float.Ieee.{is_nan, to_bits};
 ghost use Rattle.float.specs.Order.{key_of};
-ghost use Rattle.root.specs.SquareRoot.{sqrt_of};
-ghost use Rattle.rank.specs.Sort.{Ascending};
 ghost use Rattle.rank.specs.Heap.{HeapFrom};
 ghost use Rattle.rank.specs.Pairs.{pack, pairs};
-ghost use Rattle.config.specs.Metric.{is_cosine};
-ghost use Rattle.codes.specs.Codes.{Small};
+ghost use Rattle.codes.specs.Codes.{RowSums, Small};
 ghost use Rattle.quantization.specs.Encoder.{Levels};
-ghost use Rattle.row.specs.Read.{scale_test, sums_test};
-ghost use Rattle.row.specs.Answer.{view_of};
+ghost use Rattle.quantization.specs.View.{View, row_test, valid_row};
+ghost use Rattle.row.specs.Read.{scale_test, sums_test, read_of};
+ghost use Rattle.row.specs.Answer.{answer, view_of};
 ghost use Rattle.row.specs.Distance.{distance_of};
-ghost use Rattle.format.specs.Fields.{rows_of, dimensions_of, metric_at};
-ghost use Rattle.format.specs.Layout.{LaidOut};
-ghost use Rattle.entries.specs.Plan.{rows_ok};
-ghost use Rattle.quantized_cache.specs.Open.{RoomFor, row_start, cached_at};
+ghost use Rattle.format.specs.Fields.{metric_at};
+ghost use Rattle.quantized_cache.specs.Open.{cached_at};
 ghost use Rattle.resident.specs.Build.{resident_at};
-ghost use Rattle.search_spec.specs.Lent.{given, everyone};
+ghost use Rattle.search_spec.specs.Lent.{wanted_of, everyone};
 ghost use Rattle.search_spec.specs.Lists.{is_eligible};
+ghost use Rattle.eligible.specs.Walk.{Sorted};
 ghost use Rattle.scan.specs.Bar.{Bar, Keeps};
 ghost use Rattle.scan.specs.Far.{Limits, TurnedAway};
 ghost use Rattle.scan.specs.Ahead.{AheadIs, NextIs};
-ghost use Rattle.scan.specs.Scan.{ScanIs};
+ghost use Rattle.scan.specs.Scan.{ScanIs, reach, scanned};
 
-use codes::Sums;
-use config::{Metric, Refusal};
-use format::Layout;
+use codes::{Code, Sums};
+use config::{Metric, Refused};
+use entries::Table;
 use quantization::Row;
 use quantized_cache::CachedRows;
+use resident::ResidentRows;
 use row::{Query, RowAnswer};
 
-// A refusal, or how many candidates are kept, of how many eligible rows.
+// How many candidates are kept, of how many eligible rows.
 #[derive(Clone, Copy)]
 pub struct Scanned {
-    pub refusal: Refusal,
     pub count: usize,
     pub eligible: usize,
 }
@@ -60,12 +54,12 @@ pub fn bar(ks: &[u64], count: usize) -> u64
     ensures { Bar ks.now count result }
 {
     if count < ks.len() {
-        return 18446744073709551615;
+        return u64::MAX;
     }
-    if 0 < ks.len() {
-        return ks[0];
+    match ks.first() {
+        Some(top) => *top,
+        None => 0,
     }
-    0
 }
 
 // A row with its distance: most are turned away by one comparison with a number at hand.
@@ -76,30 +70,99 @@ pub fn keep(ks: &mut [u64], rs: &mut [u64], count: usize, top: u64, x: f64, row:
 {
     let key = float::key(x);
     if top < key {
-        return Held {
-            count: count,
-            top: top,
-        };
+        return Held { count, top };
     }
     let n = rank::keep_best(ks, rs, count, key, row as u64);
     let t = bar(ks, n);
     Held { count: n, top: t }
 }
 
-// ---- Rows that are too far under cosine, known by their sums without a root.
+// ---- The rows, one kind or the other.
 
-// The limit for the key over which none is kept; 0, by which no row is too far, but under cosine.
-fn far_bound(metric: Metric, top: u64, norm: i64) -> u32
-    ensures { Limits metric norm top result }
-{
-    if metric.is_cosine() {
-        return cosine::far_limit(top, norm);
-    }
-    0
+// Rows that are scanned: of a cache, or resident.
+pub trait Rows: Copy {
+    type Code: Code;
+
+    // how many they are
+    ghost count: { Self → ℕ };
+
+    // how many codes each has
+    ghost width: { Self → ℕ };
+
+    // a row, as a search sees it
+    ghost at: { Self → ℕ → View };
+
+    // A row's scale and norm, where its scale passes.
+    fn read(&self, row: usize) -> Option<Row>
+        requires { row < count self.now }
+        ensures { result ≡ read_of (at self.now row).scale (at self.now row).norm };
+
+    // And its codes.
+    fn codes(&self, row: usize) -> &[Self::Code]
+        requires { row < count self.now }
+        ensures values { Self.Code.codes_of result.now ≡ (at self.now row).codes }
+        ensures as_many { length result.now ≡ width self.now };
 }
 
-// ---- Rows that are turned away: valid, with a finite distance whose key is over that of every row that is kept, so that they change
-// nothing. Nearly all rows are, and they go by in a loop that holds few numbers.
+impl<'a> Rows for CachedRows<'a> {
+    type Code = u8;
+
+    ghost count = { λ s. s.rows };
+
+    ghost width = { λ s. s.dimensions };
+
+    ghost at = { λ s row. cached_at s.rows s.dimensions s.cache.now row };
+
+    fn read(&self, row: usize) -> Option<Row> {
+        CachedRows::read(self, row)
+    }
+
+    fn codes(&self, row: usize) -> &[u8] {
+        CachedRows::codes(self, row)
+    }
+}
+
+impl<'a> Rows for ResidentRows<'a> {
+    type Code = i8;
+
+    ghost count = { λ s. s.rows };
+
+    ghost width = { λ s. s.dimensions };
+
+    ghost at = { λ s row. resident_at s.dimensions s.codes.now s.scales.now s.norms.now row };
+
+    #[tactic(auto, unfolding(row::specs::Read::read_of))]
+    fn read(&self, row: usize) -> Option<Row> {
+        let r = Row {
+            scale: self.scales[row],
+            norm: self.norms[row],
+        };
+        if row::scale_holds(r.scale) {
+            Some(r)
+        } else {
+            None
+        }
+    }
+
+    fn codes(&self, row: usize) -> &[i8] {
+        let from = row * self.dimensions;
+        let end = from + self.dimensions;
+        &self.codes[from..end]
+    }
+}
+
+// ---- The query, as rows are held against it.
+
+#[derive(Clone, Copy)]
+pub struct Against<'a> {
+    pub levels: u32,
+    pub metric: Metric,
+    pub query: Query,
+    pub codes: &'a [i16],
+    pub ghost counted: { Levels levels },
+    pub ghost short: { length codes.now ≤ 4096 },
+    pub ghost small: { Small codes.now },
+}
 
 // The last row that was gone over, and what is said of it.
 #[derive(Clone, Copy)]
@@ -108,422 +171,157 @@ pub struct Next {
     pub answer: RowAnswer,
 }
 
-// The first row that may not be turned away and its sums, or the end.
+// A row that may not be turned away, and its sums.
 #[derive(Clone, Copy)]
 pub struct Ahead {
     pub row: usize,
     pub sums: Sums,
 }
 
-// Whether a row whose scale has passed is turned away: by the number with the key that none may be over, under cosine by the limit t.
-fn turned_away(metric: Metric, row: Row, sums: Sums, query: Row, bound: f64, t: u32) -> bool
-    requires { nat_abs query.norm ≤ 9007199254740992 }
-    ensures { TurnedAway query.norm bound t (sums_test metric row.norm sums.check.squares sums.check.whole) (distance_of metric row.scale row.norm query.scale query.norm sums.dot) result }
-{
-    if metric.is_cosine() {
-        return row::sums_hold(metric, row, sums.check)
-            & cosine::is_far(sums.check.squares, sums.dot, t);
-    }
-    if row::sums_hold(metric, row, sums.check) {
-        return row::is_over(metric, row, query, sums.dot, bound);
-    }
-    false
-}
-
-// ---- The rows of a cache.
-
-// Where a row starts.
-fn start(cache: &[u8], rows: usize, row: usize, n: usize) -> usize
-    requires { (row ≤ rows) × (rows ≤ 1000000) × (n ≤ 4096) × RoomFor (length cache.now) rows n }
-    ensures { result ≡ row_start (length cache.now) rows n row }
-{
-    let kept = CachedRows {
-        cache,
-        rows,
-        dimensions: n,
-    };
-    kept.start(row)
-}
-
-fn row_at(cache: &[u8], at: usize) -> Row
-    requires { at + 16 ≤ length cache.now }
-    ensures { (result.scale ≡ of_bits binary64 (le_at 8 cache.now at))
-        × (result.norm ≡ to_z w64 (le_at 8 cache.now (at + 8))) }
-{
-    Row {
-        scale: float::Pattern::value(le::u64_at(cache, at)),
-        norm: le::i64_at(cache, at + 8),
-    }
-}
-
-fn turned_away_cached(
-    metric: Metric,
-    cache: &[u8],
-    at: usize,
-    sums: Sums,
-    query: Row,
-    bound: f64,
-    t: u32,
-) -> bool
-    requires { (at + 16 ≤ length cache.now) × (nat_abs query.norm ≤ 9007199254740992) }
-    ensures { let s = of_bits binary64 (le_at 8 cache.now at) in
-        let n = to_z w64 (le_at 8 cache.now (at + 8)) in
-        TurnedAway query.norm bound t (scale_test s && sums_test metric n sums.check.squares sums.check.whole) (distance_of metric s n query.scale query.norm sums.dot) result }
-{
-    match row::read_row(cache, at) {
-        Some(row) => turned_away(metric, row, sums, query, bound, t),
-        None => false,
-    }
-}
-
-// From an eligible row on, where all are up to `to`.
-fn ahead_cached(
-    levels: u32,
-    metric: Metric,
-    cache: &[u8],
-    rows: usize,
-    q: &[i16],
-    query: Row,
-    row: usize,
-    to: usize,
-    top: u64,
-    t: u32,
-) -> Ahead
-    requires row_le_to { (row ≤ to) × (to ≤ rows) × (rows ≤ 1000000) × (length q.now ≤ 4096) × Levels levels
-        × RoomFor (length cache.now) rows (length q.now) }
-    requires norm_bound { (nat_abs query.norm ≤ 9007199254740992) × Small q.now × Limits metric query.norm top t }
-    ensures { AheadIs levels metric (cached_at rows (length q.now) cache.now) (view_of query.scale query.norm q.now) row to top result }
-{
-    let bound = float::value_of_key(top);
-    let stride = cache_format::row_length(q.len());
-    let mut at = start(cache, rows, row, q.len());
-    let mut i = row;
-    while i < to {
-        let sums = codes::row_sums(levels as u8, &cache[at + 16..at + 16 + q.len()], q);
-        if !turned_away_cached(metric, cache, at, sums, query, bound, t) {
-            return Ahead { row: i, sums: sums };
+impl<'a> Against<'a> {
+    // The limit for the key over which none is kept; 0, by which no row is too far, but under cosine.
+    #[tactic(auto, using(cosine::proofs::Far::never))]
+    fn far_bound(self, top: u64) -> u32
+        ensures { Limits self.entry.metric self.entry.query.row.norm top result }
+    {
+        if self.metric.is_cosine() {
+            return cosine::far_limit(top, self.query.row.norm);
         }
-        at += stride;
-        i += 1;
+        0
     }
-    Ahead {
-        row: i,
-        sums: codes::NO_SUMS,
-    }
-}
 
-// The row; where it is eligible, the first from it on that may not be turned away, or the last before `to`.
-fn next_cached(
-    levels: u32,
-    metric: Metric,
-    cache: &[u8],
-    rows: usize,
-    q: &[i16],
-    query: Row,
-    root: f64,
-    eligible: bool,
-    row: usize,
-    to: usize,
-    top: u64,
-    t: u32,
-) -> Next
-    requires row_lt_to { (row < to) × (to ≤ rows) × (rows ≤ 1000000) × (length q.now ≤ 4096) × Levels levels
-        × RoomFor (length cache.now) rows (length q.now) }
-    requires norm_bound { (nat_abs query.norm ≤ 9007199254740992) × Small q.now × Limits metric query.norm top t
-        × (root ≡ sqrt_of (of_int binary64 query.norm)) }
-    ensures { NextIs levels metric (cached_at rows (length q.now) cache.now) (view_of query.scale query.norm q.now) eligible row to top result }
-{
-    if eligible {
-        let a = ahead_cached(levels, metric, cache, rows, q, query, row, to, top, t);
-        if a.row < to {
-            let r = row_at(cache, start(cache, rows, a.row, q.len()));
+    // Whether a row is turned away: it is valid, with a finite distance whose key is over that of every row that is kept, so that it changes
+    // nothing; by the number with the key that none may be over, under cosine by the limit `far`, without a root. Nearly all rows are.
+    fn turns_away(self, row: Option<Row>, sums: Sums, bound: f64, far: u32) -> bool
+        ensures { (scale : _) (norm : _) → row ≡ read_of scale norm
+            → TurnedAway self.entry.query.row.norm bound far (scale_test scale && sums_test self.entry.metric norm sums.check.squares sums.check.whole) (distance_of self.entry.metric scale norm self.entry.query.row.scale self.entry.query.row.norm sums.dot) result }
+    {
+        let Some(row) = row else {
+            return false;
+        };
+        if !row::sums_hold(self.metric, row, sums.check) {
+            return false;
+        }
+        if self.metric.is_cosine() {
+            return cosine::is_far(sums.check.squares, sums.dot, far);
+        }
+        row::is_over(self.metric, row, self.query.row, sums.dot, bound)
+    }
+
+    // Of eligible rows, from this one on and before `to`, the first that may not be turned away.
+    fn ahead<R: Rows>(self, rows: R, row: usize, to: usize, top: u64, far: u32) -> Option<Ahead>
+        requires bounds { (row ≤ to) × (to ≤ R.count rows) × (R.width rows ≡ length self.codes.now) }
+        requires limits { Limits self.metric self.query.row.norm top far }
+        ensures { AheadIs self.entry.levels self.entry.metric (R.at rows) (view_of self.entry.query.row.scale self.entry.query.row.norm self.entry.codes.now) row to top result }
+    {
+        let bound = float::value_of_key(top);
+        let levels = self.levels as u8;
+        for i in row..to {
+            let sums = codes::row_sums(levels, rows.codes(i), self.codes);
+            if !self.turns_away(rows.read(i), sums, bound, far) {
+                return Some(Ahead { row: i, sums });
+            }
+        }
+        None
+    }
+
+    // What an eligible row yields, from its sums.
+    fn answer(self, read: Option<Row>, row: usize, sums: Sums) -> RowAnswer
+        ensures { (scale : _) (norm : _) → read ≡ read_of scale norm
+            → result ≡ answer (row_test self.entry.levels self.entry.metric scale norm sums.check.squares sums.check.whole) true row (distance_of self.entry.metric scale norm self.entry.query.row.scale self.entry.query.row.norm sums.dot) }
+    {
+        match read {
+            Some(r) => row::summed_row(self.levels, self.metric, r, sums, self.query, row as u64),
+            None => row::passed_over(false, row as u64),
+        }
+    }
+
+    // The row; where it is eligible, the first from it on that may not be turned away, or the last before `to`.
+    fn next<R: Rows>(
+        self,
+        rows: R,
+        eligible: bool,
+        row: usize,
+        to: usize,
+        top: u64,
+        far: u32,
+    ) -> Next
+        requires bounds { (row < to) × (to ≤ R.count rows) × (R.width rows ≡ length self.codes.now) }
+        requires limits { Limits self.metric self.query.row.norm top far }
+        ensures { NextIs self.entry.levels self.entry.metric (R.at rows) (view_of self.entry.query.row.scale self.entry.query.row.norm self.entry.codes.now) eligible row to top result }
+    {
+        if !eligible {
+            let valid = row::holds(self.levels, self.metric, rows.read(row), rows.codes(row));
             return Next {
-                row: a.row,
-                answer: row::summed_row(
-                    levels,
-                    metric,
-                    r,
-                    a.sums,
-                    Query { row: query, root },
-                    a.row as u64,
-                ),
+                row,
+                answer: row::passed_over(valid, row as u64),
             };
         }
-        return Next {
-            row: to - 1,
-            answer: RowAnswer::PassedOver,
-        };
-    }
-    let at = start(cache, rows, row, q.len());
-    let valid = row::holds(levels, metric, cache, at, q.len());
-    Next {
-        row: row,
-        answer: row::passed_over(valid, row as u64),
-    }
-}
-
-// ---- Resident rows.
-
-fn row_of(scales: &[f64], norms: &[i64], row: usize) -> Row
-    requires { (row < length scales.now) × (row < length norms.now) }
-    ensures { (result.scale ≡ get_or scales.now row nan) × (result.norm ≡ get_or norms.now row (pos 0)) }
-{
-    Row {
-        scale: scales[row],
-        norm: norms[row],
-    }
-}
-
-fn turned_away_resident(
-    metric: Metric,
-    row: Row,
-    sums: Sums,
-    query: Row,
-    bound: f64,
-    t: u32,
-) -> bool
-    requires { nat_abs query.norm ≤ 9007199254740992 }
-    ensures { TurnedAway query.norm bound t (scale_test row.scale && sums_test metric row.norm sums.check.squares sums.check.whole) (distance_of metric row.scale row.norm query.scale query.norm sums.dot) result }
-{
-    if row::scale_holds(row.scale) {
-        return turned_away(metric, row, sums, query, bound, t);
-    }
-    false
-}
-
-fn ahead_resident(
-    levels: u32,
-    metric: Metric,
-    codes: &[i8],
-    scales: &[f64],
-    norms: &[i64],
-    q: &[i16],
-    query: Row,
-    row: usize,
-    to: usize,
-    top: u64,
-    t: u32,
-) -> Ahead
-    requires row_le_to { (row ≤ to) × (to ≤ 1000000) × (length q.now ≤ 4096) × Levels levels × (to * length q.now ≤ length codes.now)
-        × (to ≤ length scales.now) × (to ≤ length norms.now) }
-    requires norm_bound { (nat_abs query.norm ≤ 9007199254740992) × Small q.now × Limits metric query.norm top t }
-    ensures { AheadIs levels metric (resident_at (length q.now) codes.now scales.now norms.now) (view_of query.scale query.norm q.now) row to top result }
-{
-    let bound = float::value_of_key(top);
-    let stride = q.len();
-    let mut at = row * stride;
-    let mut i = row;
-    while i < to {
-        let sums = codes::row_sums(levels as u8, &codes[at..at + q.len()], q);
-        let r = row_of(scales, norms, i);
-        if !turned_away_resident(metric, r, sums, query, bound, t) {
-            return Ahead { row: i, sums: sums };
-        }
-        at += stride;
-        i += 1;
-    }
-    Ahead {
-        row: i,
-        sums: codes::NO_SUMS,
-    }
-}
-
-fn next_resident(
-    levels: u32,
-    metric: Metric,
-    codes: &[i8],
-    scales: &[f64],
-    norms: &[i64],
-    q: &[i16],
-    query: Row,
-    root: f64,
-    eligible: bool,
-    row: usize,
-    to: usize,
-    top: u64,
-    t: u32,
-) -> Next
-    requires row_lt_to { (row < to) × (to ≤ 1000000) × (length q.now ≤ 4096) × Levels levels × (to * length q.now ≤ length codes.now)
-        × (to ≤ length scales.now) × (to ≤ length norms.now) }
-    requires norm_bound { (nat_abs query.norm ≤ 9007199254740992) × Small q.now × Limits metric query.norm top t
-        × (root ≡ sqrt_of (of_int binary64 query.norm)) }
-    ensures { NextIs levels metric (resident_at (length q.now) codes.now scales.now norms.now) (view_of query.scale query.norm q.now) eligible row to top result }
-{
-    if eligible {
-        let a = ahead_resident(
-            levels, metric, codes, scales, norms, q, query, row, to, top, t,
-        );
-        if a.row < to {
-            let r = row_of(scales, norms, a.row);
-            return Next {
+        match self.ahead(rows, row, to, top, far) {
+            Some(a) => Next {
                 row: a.row,
-                answer: row::summed_row(
-                    levels,
-                    metric,
-                    r,
-                    a.sums,
-                    Query { row: query, root },
-                    a.row as u64,
-                ),
-            };
+                answer: self.answer(rows.read(a.row), a.row, a.sums),
+            },
+            None => Next {
+                row: to - 1,
+                answer: RowAnswer::PassedOver,
+            },
         }
-        return Next {
-            row: to - 1,
-            answer: RowAnswer::PassedOver,
-        };
-    }
-    let r = row_of(scales, norms, row);
-    let valid = row::holds_resident(levels, metric, codes, row * q.len(), r, q.len());
-    Next {
-        row: row,
-        answer: row::passed_over(valid, row as u64),
     }
 }
 
 // ---- The scan.
 
-// Up to where the rows from this one on are eligible, if it is: to the end where all ids are wanted.
-fn reach(all: bool, row: usize, rows: usize) -> usize
+// Up to where the rows from this one on are eligible, if it is: to the end where every id is wanted.
+fn reach(wanted: Option<&[u64]>, row: usize, rows: usize) -> usize
     requires { row < rows }
-    ensures { result ≡ cond all rows (row + 1) }
+    ensures { result ≡ reach (wanted_of wanted.entry) row rows }
 {
-    if all {
-        return rows;
-    }
-    row + 1
+    if wanted.is_none() { rows } else { row + 1 }
 }
 
-// The rows of a cache.
-pub fn cached(
-    levels: u32,
-    m: &[u8],
-    layout: Layout,
-    all: bool,
-    sorted: &[u64],
-    metric: Metric,
-    cache: &[u8],
-    q: &[i16],
-    query: Row,
-    root: f64,
+pub fn scan<R: Rows>(
+    against: Against<'_>,
+    rows: R,
+    table: Table<'_>,
+    wanted: Option<&[u64]>,
     ks: &mut [u64],
     rs: &mut [u64],
-) -> Scanned
-    requires laid_out { LaidOut m.now layout × (rows_ok m.now ≡ true) × Ascending leb sorted.now × (length q.now ≡ layout.dimensions) }
-    requires levels { Levels levels × (metric ≡ metric_at m.now) × (length ks.old ≡ length rs.old)
-        × RoomFor (length cache.now) layout.rows layout.dimensions }
-    requires norm_bound { (nat_abs query.norm ≤ 9007199254740992) × (root ≡ sqrt_of (of_int binary64 query.norm)) × Small q.now }
-    ensures { ScanIs levels m.now (is_eligible (given all sorted.now) everyone m.now) (cached_at (rows_of m.now) (dimensions_of m.now) cache.now) (view_of query.scale query.norm q.now) (length ks.old) result ks.new rs.new }
+) -> Result<Scanned, Refused>
+    requires sorted { Sorted (wanted_of wanted) }
+    requires rows { (R.count rows ≡ table.manifest.layout.rows) × (R.width rows ≡ table.manifest.layout.dimensions)
+        × (length against.codes.now ≡ table.manifest.layout.dimensions) }
+    requires slices { (against.metric ≡ metric_at table.manifest.bytes.now) × (length ks.old ≡ length rs.old) }
+    ensures { ScanIs against.entry.levels table.entry.manifest.bytes.now (is_eligible (wanted_of wanted.entry) everyone table.entry.manifest.bytes.now) (R.at rows) (view_of against.entry.query.row.scale against.entry.query.row.norm against.entry.codes.now) (length ks.old) (scanned result) ks.new rs.new }
 {
-    let rows = layout.rows;
+    let end = table.manifest.layout.rows;
     let mut row = 0;
     let mut cursor = 0;
-    let mut total = 0;
+    let mut eligible = 0;
     let mut count = 0;
     let mut top = bar(ks, 0);
-    let mut t = 0;
-    while row < rows {
-        let e = eligible::row_step(m, layout, all, sorted, cursor, row);
+    let mut far = 0;
+    // not a `for`: a turn goes over as many rows as `next` does
+    while row < end {
+        let e = eligible::row_step(table, wanted, cursor, row);
         cursor = e.cursor;
-        let to = reach(all, row, rows);
-        let a = next_cached(
-            levels, metric, cache, rows, q, query, root, e.eligible, row, to, top, t,
-        );
-        total += a.row - row + e.eligible as usize;
+        let to = reach(wanted, row, end);
+        let a = against.next(rows, e.eligible, row, to, top, far);
+        eligible += a.row - row + e.eligible as usize;
         row = a.row;
-        let said = a.answer;
-        match said {
+        match a.answer {
             RowAnswer::Distance(x) => {
                 let h = keep(ks, rs, count, top, x, row);
                 count = h.count;
                 top = h.top;
-                t = far_bound(metric, h.top, query.norm);
+                far = against.far_bound(h.top);
             }
             RowAnswer::PassedOver => {}
-            RowAnswer::Refused(refusal) => {
-                return Scanned {
-                    refusal: refusal,
-                    count: 0,
-                    eligible: 0,
-                };
+            RowAnswer::Refused(refused) => {
+                return Err(refused);
             }
         }
         row += 1;
     }
-    Scanned {
-        refusal: Refusal {
-            number: 0,
-            place: 0,
-        },
-        count: count,
-        eligible: total,
-    }
-}
-
-// Resident rows.
-pub fn resident(
-    levels: u32,
-    m: &[u8],
-    layout: Layout,
-    all: bool,
-    sorted: &[u64],
-    metric: Metric,
-    codes: &[i8],
-    scales: &[f64],
-    norms: &[i64],
-    q: &[i16],
-    query: Row,
-    root: f64,
-    ks: &mut [u64],
-    rs: &mut [u64],
-) -> Scanned
-    requires laid_out { LaidOut m.now layout × (rows_ok m.now ≡ true) × Ascending leb sorted.now × (length q.now ≡ layout.dimensions) }
-    requires levels { Levels levels × (metric ≡ metric_at m.now) × (length ks.old ≡ length rs.old)
-        × (layout.rows * layout.dimensions ≤ length codes.now) × (layout.rows ≤ length scales.now)
-        × (layout.rows ≤ length norms.now) }
-    requires norm_bound { (nat_abs query.norm ≤ 9007199254740992) × (root ≡ sqrt_of (of_int binary64 query.norm)) × Small q.now }
-    ensures { ScanIs levels m.now (is_eligible (given all sorted.now) everyone m.now) (resident_at (dimensions_of m.now) codes.now scales.now norms.now) (view_of query.scale query.norm q.now) (length ks.old) result ks.new rs.new }
-{
-    let rows = layout.rows;
-    let mut row = 0;
-    let mut cursor = 0;
-    let mut total = 0;
-    let mut count = 0;
-    let mut top = bar(ks, 0);
-    let mut t = 0;
-    while row < rows {
-        let e = eligible::row_step(m, layout, all, sorted, cursor, row);
-        cursor = e.cursor;
-        let to = reach(all, row, rows);
-        let a = next_resident(
-            levels, metric, codes, scales, norms, q, query, root, e.eligible, row, to, top, t,
-        );
-        total += a.row - row + e.eligible as usize;
-        row = a.row;
-        let said = a.answer;
-        match said {
-            RowAnswer::Distance(x) => {
-                let h = keep(ks, rs, count, top, x, row);
-                count = h.count;
-                top = h.top;
-                t = far_bound(metric, h.top, query.norm);
-            }
-            RowAnswer::PassedOver => {}
-            RowAnswer::Refused(refusal) => {
-                return Scanned {
-                    refusal: refusal,
-                    count: 0,
-                    eligible: 0,
-                };
-            }
-        }
-        row += 1;
-    }
-    Scanned {
-        refusal: Refusal {
-            number: 0,
-            place: 0,
-        },
-        count: count,
-        eligible: total,
-    }
+    Ok(Scanned { count, eligible })
 }

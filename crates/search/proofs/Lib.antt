@@ -1,2 +1,2 @@
--- Laws of the entries.
+-- What the entries return of a call.
 pub mod Returned

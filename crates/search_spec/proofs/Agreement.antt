@@ -19,8 +19,7 @@ use Rattle.rank.proofs.Least.{length_least, from-least}
 use Rattle.rank.proofs.Rows.{passing_rising}
 use Rattle.rank.proofs.ByKey.{order}
 use Rattle.rank.proofs.Limit.{by_keys, rising_once}
-use Rattle.config.specs.Refusal.{none, refused_or}
-use Rattle.config.specs.declared.Refusal.{Refusal}
+use Rattle.config.specs.Refusal.{Refusal, none, refused_or}
 use Rattle.config.proofs.Refusals.{none-refused, goes_on, is_done}
 use Rattle.format.specs.Fields.{rows_of, id_at}
 use Rattle.format.specs.declared.Head.{Head}

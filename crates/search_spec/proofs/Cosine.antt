@@ -16,9 +16,8 @@ use Rattle.format.specs.Head.{head_at}
 use Rattle.quantized_cache.specs.declared.CacheState.{CacheState}
 use Rattle.resident.specs.declared.ResidentState.{ResidentState}
 use Rattle.search_spec.specs.declared.Report.{Report}
-use Rattle.search_spec.specs.declared.Agreed.{Agreed}
 use Rattle.search_spec.specs.Lent.{Wanted, every, only, Call, everyone}
-use Rattle.search_spec.specs.Outcome.{Outcome, returned, returned_count}
+use Rattle.search_spec.specs.Outcome.{Agreed, Outcome, returned, returned_count}
 use Rattle.search_spec.specs.Kept.{cached_rows, resident_rows, cached, resident, agreement_resident}
 use Rattle.search_spec.proofs.Example.{slices}
 

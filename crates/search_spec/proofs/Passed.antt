@@ -11,8 +11,7 @@ use Rattle.le.specs.Le.{paste}
 use Rattle.le.proofs.Chain.{held}
 use Rattle.le.proofs.Pastes.{paste-first}
 use Rattle.float.specs.Values.{plus_zero}
-use Rattle.config.specs.Refusal.{refused_or}
-use Rattle.config.specs.declared.Refusal.{Refusal}
+use Rattle.config.specs.Refusal.{Refusal, refused_or}
 use Rattle.config.proofs.Refusals.{not_zero, none-refused, is_done}
 use Rattle.format.specs.Fields.{rows_of}
 use Rattle.format.specs.Same.{is_same_head}

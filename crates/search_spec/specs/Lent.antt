@@ -1,11 +1,15 @@
 -- What is lent to a search.
-use Rattle.std.specs.Prelude.{◌≡◌, Bool, true, false, List, ℕ, length, Float}
+use Rattle.std.specs.Prelude.{◌≡◌, Bool, true, false, List, ℕ, length, Float, Option, Some, None}
 use Rattle.std.specs.Float.{binary32}
 use Rattle.std.specs.Float.Ieee.{fits}
 use Rattle.rank.specs.Limit.{among}
 use Rattle.config.specs.Vector.{all}
 use Rattle.quantization.specs.View.{View}
 use Rattle.quantization.specs.Encoder.{base_levels, midpoints}
+use Rattle.search_spec.specs.declared.Call.{Call as CallAsLent}
+use Rattle.search_spec.specs.declared.Answers.{Answers as AnswersAsLent}
+use Rattle.search_spec.specs.declared.Work.{Work as WorkAsLent}
+use denote.Bor.{Bor}
 
 -- How rows and query are encoded (document 01, The arithmetic, Encoder): the level count, and the midpoints.
 pub record Encoding : Type 0 where
@@ -32,6 +36,11 @@ pub data Wanted : Type 0 where
 abbrev pub given : Bool → List ℕ → Wanted
 given true ids = every
 given false ids = only ids
+
+-- as they are lent
+abbrev pub wanted_of : Option (Bor (List ℕ)) → Wanted
+wanted_of None = every
+wanted_of (Some ids) = only ids.now
 
 -- their count as handed in, "repeats with them" (readings R18)
 abbrev pub handed : Wanted → ℕ
@@ -86,3 +95,26 @@ pub record Call : Type 0 where
 abbrev pub call_of : List ℕ → List ℕ → Wanted → List Float → ℕ → ℕ → Answers → Work → Call
 call_of m s wanted query k limit a w =
     record { manifest = m; segments = s; wanted = wanted; allowed = everyone; query = query; k = k; limit = limit; answers = a; work = w }
+
+-- as they are lent
+abbrev pub answers_in : AnswersAsLent → Answers
+answers_in a = answers_of a.ids.now a.distances.now a.rows.now a.starts.now a.lengths.now
+
+abbrev pub work_in : WorkAsLent → Work
+work_in w = work_of w.keys.now w.candidates.now w.ids.now
+
+-- and the slices lent stay the same ones: none is exchanged
+abbrev pub SameAnswers : AnswersAsLent → AnswersAsLent → Type 0
+SameAnswers a b =
+    (b.ids.ghost_name ≡ a.ids.ghost_name)
+    × (b.distances.ghost_name ≡ a.distances.ghost_name)
+    × (b.rows.ghost_name ≡ a.rows.ghost_name)
+    × (b.starts.ghost_name ≡ a.starts.ghost_name)
+    × (b.lengths.ghost_name ≡ a.lengths.ghost_name)
+
+abbrev pub SameWork : WorkAsLent → WorkAsLent → Type 0
+SameWork v w =
+    (w.keys.ghost_name ≡ v.keys.ghost_name) × (w.candidates.ghost_name ≡ v.candidates.ghost_name) × (w.ids.ghost_name ≡ v.ids.ghost_name)
+
+abbrev pub call_in : CallAsLent → AnswersAsLent → WorkAsLent → Call
+call_in c a w = call_of c.manifest.now c.segments.now (wanted_of c.wanted) c.query.now c.k c.limit (answers_in a) (work_in w)

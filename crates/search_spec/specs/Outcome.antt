@@ -1,7 +1,8 @@
 -- The outcome of a search (document 01, The report).
-use Rattle.std.specs.Prelude.{◌≡◌, true, false, not, cond, ◌&&◌, List, [], ◌∷◌, map, ℕ, suc, ltb, eqb, length, get_or, take}
-use Rattle.config.specs.Refusal.{none, then_refusal, refused_or, unless_refused}
-use Rattle.config.specs.declared.Refusal.{Refusal}
+use Rattle.std.specs.Prelude.{◌≡◌, true, false, not, cond, ◌&&◌, List, [], ◌∷◌, map, ℕ, suc, ltb, eqb, length, get_or, take, Result}
+use Rattle.config.specs.Refusal.{Refusal, none, then_refusal, refused_or, unless_refused}
+use Rattle.config.specs.Told.{told, granted}
+use Rattle.config.specs.declared.Refused.{Refused}
 use Rattle.format.specs.Fields.{generation_of, sequence_of, id_at, metadata_at}
 use Rattle.format.specs.declared.Head.{Head}
 use Rattle.le.specs.Le.{paste, zeros}
@@ -9,8 +10,6 @@ use Rattle.float.specs.Values.{plus_zero}
 use Rattle.segment.specs.Record.{metadata_start}
 use Rattle.search_spec.specs.declared.Place.{Place}
 use Rattle.search_spec.specs.declared.Report.{Report}
-use Rattle.search_spec.specs.declared.Searched.{Searched}
-use Rattle.search_spec.specs.declared.Agreed.{Agreed}
 use Rattle.search_spec.specs.Lent.{Rows, Answers, Work, Call}
 use Rattle.search_spec.specs.Tests.{entries_refusal, front_number}
 use Rattle.search_spec.specs.Lists.{eligible_rows, original_at, candidate_rows, listed_rows, exact_rows}
@@ -116,7 +115,23 @@ searched head rows c = outcome_by (front_number head c) rows c (candidate_rows r
 unfoldable pub agreed : Head → Rows → Call → Outcome
 agreed head rows c = outcome_by (front_number head c) rows c (eligible_rows c)
 
--- what a search returns of it, and what the agreement call does
+-- what a search returns: a refusal, or its report; and what an agreement call does: a refusal, or its count
+pub record Searched : Type 0 where
+  pub refusal : Refusal
+  pub report : Report
+
+pub record Agreed : Type 0 where
+  pub refusal : Refusal
+  pub agreement : ℕ
+
+-- of what the code answers
+abbrev pub search_outcome : Result Report Refused → Searched
+search_outcome r = record { refusal = told r; report = granted no_report r }
+
+abbrev pub count_outcome : Result ℕ Refused → Agreed
+count_outcome r = record { refusal = told r; agreement = granted 0 r }
+
+-- what a search returns of an outcome, and what the agreement call does
 abbrev pub returned : Outcome → Searched
 returned o = record { refusal = o.refusal; report = o.report }
 

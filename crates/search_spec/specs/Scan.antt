@@ -3,8 +3,7 @@
 use Rattle.std.specs.Prelude.{Bool, cond, List, ℕ, leb, length, get_or, Float}
 use Rattle.std.specs.Float.Ieee.Scale.{finite}
 use Rattle.rank.specs.Sort.{sort}
-use Rattle.config.specs.Refusal.{none, refused}
-use Rattle.config.specs.declared.Refusal.{Refusal}
+use Rattle.config.specs.Refusal.{Refusal, none, refused}
 use Rattle.quantization.specs.View.{View}
 use Rattle.format.specs.Order.{first_refusal}
 use Rattle.format.specs.Fields.{rows_of, metric_at}

@@ -2,9 +2,8 @@
 -- for the entries; with k = 0 it then answers"). All but the last are refused at place 0.
 use Rattle.std.specs.Prelude.{Bool, ◌&&◌, List, ℕ, min, leb, length, Float}
 use Rattle.config.specs.Limits.{max_records, max_results, max_candidates}
-use Rattle.config.specs.Refusal.{refused_at}
+use Rattle.config.specs.Refusal.{Refusal, refused_at}
 use Rattle.config.specs.Vector.{valid_vector}
-use Rattle.config.specs.declared.Refusal.{Refusal}
 use Rattle.format.specs.Order.{unless, or_else}
 use Rattle.format.specs.Fields.{dimensions_of, rows_of, metric_at}
 use Rattle.format.specs.Same.{is_same_head}

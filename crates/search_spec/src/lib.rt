@@ -1,11 +1,38 @@
-// What a search returns and looks at, as plain data. What a search is stands in specs/: what is lent to it, its tests in their order,
-// its lists and its outcome.
+// What a search is lent, returns and looks at, as plain data. What a search is stands in specs/: what is lent to it, its tests in their
+// order, its lists and its outcome.
 #![tactic(auto)]
 
-use config::Refusal;
-
-// The lengths of the slices that a search writes: the five answer slices, the two for the candidates, the one for the ids handed in.
+// What is lent beside the kept rows and what a call writes. Without `wanted` every id is.
 #[derive(Clone, Copy)]
+pub struct Call<'a> {
+    pub manifest: &'a [u8],
+    pub segments: &'a [u8],
+    pub wanted: Option<&'a [u64]>,
+    pub query: &'a [f32],
+    pub k: usize,
+    pub limit: usize,
+}
+
+// The answer slices.
+#[derive(Drop)]
+pub struct Answers<'a> {
+    pub ids: &'a mut [u64],
+    pub distances: &'a mut [f64],
+    pub rows: &'a mut [u64],
+    pub starts: &'a mut [u64],
+    pub lengths: &'a mut [u32],
+}
+
+// The working slices: two for the candidates, one for the ids handed in.
+#[derive(Drop)]
+pub struct Work<'a> {
+    pub keys: &'a mut [u64],
+    pub candidates: &'a mut [u64],
+    pub ids: &'a mut [u64],
+}
+
+// The lengths of the slices that a search writes.
+#[derive(Clone, Copy, Debug, PartialEq, Eq)]
 pub struct Room {
     pub ids: usize,
     pub distances: usize,
@@ -28,7 +55,7 @@ pub struct Place {
 }
 
 // The Rust's `GenerationSearchReport`, with the count of places.
-#[derive(Clone, Copy)]
+#[derive(Clone, Copy, Debug, PartialEq, Eq)]
 pub struct Report {
     pub generation: u64,
     pub sequence: u64,
@@ -37,18 +64,4 @@ pub struct Report {
     pub complete: bool,
     pub approximate: bool,
     pub count: usize,
-}
-
-// A refusal, or the report of a search.
-#[derive(Clone, Copy)]
-pub struct Searched {
-    pub refusal: Refusal,
-    pub report: Report,
-}
-
-// A refusal, or in how many places the list and the exact list agree.
-#[derive(Clone, Copy)]
-pub struct Agreed {
-    pub refusal: Refusal,
-    pub agreement: usize,
 }

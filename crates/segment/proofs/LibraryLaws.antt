@@ -9,8 +9,7 @@ use lib.ListN.{length, get_or}
 use borrow.Author.Tests.{eqb-true, eq-eqb}
 use Rattle.le.proofs.LeLaws.{AllBytes}
 use Rattle.rank.proofs.Members.{all-at, mem-get_or}
-use Rattle.config.specs.Refusal.{none, refused}
-use Rattle.config.specs.declared.Refusal.{Refusal}
+use Rattle.config.specs.Refusal.{Refusal, none, refused}
 use Rattle.config.proofs.Refusals.{not_zero, held_number, none-refused as both_none}
 use Rattle.format.specs.Fields.{segments_of, rows_of, id_at, segment_at, record_length}
 use Rattle.format.proofs.Heads.{bounds}

@@ -3,8 +3,7 @@
 use Rattle.std.specs.Prelude.{Bool, cond, ◌&&◌, List, ℕ, ◌+◌, ◌-◌, eqb, length, get_or, take, drop}
 use Rattle.le.specs.Le.{le_at}
 use Rattle.crc32.specs.Crc.{crc32}
-use Rattle.config.specs.Refusal.{none, refused, refused_or}
-use Rattle.config.specs.declared.Refusal.{Refusal}
+use Rattle.config.specs.Refusal.{Refusal, none, refused, refused_or}
 use Rattle.format.specs.Fields.{segments_of, length_of, crc_of}
 use Rattle.format.specs.Order.{first_bad, first_refusal}
 use Rattle.manifest.specs.Tiling.{in_segment}

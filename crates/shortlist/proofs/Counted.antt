@@ -1,6 +1,6 @@
--- KeptRows rows by original order, and their agreement with all eligible rows.
+-- Kept rows by original order, and their agreement with all eligible rows.
 use mathlib.Core.Path.{◌≡◌, refl, sym, ap, ◌∙◌}
-use mathlib.Core.Bool.{Bool, true, false, cond}
+use mathlib.Core.Bool.{Bool, true}
 use mathlib.Core.Logic.{⊎_elim}
 use mathlib.Core.List.{List, map}
 use Prim.Native.Nat.{ℕ, ◌≤◌, ◌<◌, min}
@@ -11,6 +11,8 @@ use lib.ListN.{length, take, length-map}
 use lib.Seq.{take_all}
 use borrow.Author.Tests.{eqb-true, eqb-false}
 use Rattle.le.proofs.Chain.{by, lt_or_le}
+use Rattle.std.specs.Prelude.{Result}
+use Rattle.std.specs.Result.{result_unwrap_or}
 use Rattle.rank.specs.Sort.{◌∈◌, sort}
 use Rattle.rank.specs.Limit.{by_key}
 use Rattle.rank.specs.Rows.{passing, RowsBelow}
@@ -18,35 +20,21 @@ use Rattle.rank.proofs.Members.{mem_take, pairwise_take, take_map}
 use Rattle.rank.proofs.Sort.{length_sort, from-sort, to_sort, distinct-sort, ascending-sort, sort-sort}
 use Rattle.rank.proofs.ByKey.{order}
 use Rattle.rank.proofs.Rows.{passing_pass, rows-below}
-use Rattle.config.specs.Refusal.{none, then_refusal}
-use Rattle.config.specs.declared.Refusal.{Refusal}
+use Rattle.config.specs.Refusal.{Refusal, none}
+use Rattle.config.specs.declared.Refused.{Refused}
+use Rattle.config.proofs.Granted.{granted-is}
 use Rattle.config.proofs.Refusals.{is_done, is-other}
 use Rattle.format.specs.Fields.{rows_of}
 use Rattle.entries.specs.Plan.{rows_ok}
 use Rattle.search_spec.specs.Lists.{by_original}
 use Rattle.search_spec.specs.Scan.{records_refusal}
-use Rattle.search_spec.specs.Outcome.{same_places}
 use Rattle.search_spec.proofs.Agreement.{records-fewer}
-use Rattle.rerank.specs.Rerank.{key_at, RerankIs}
-use Rattle.rerank.specs.declared.Reranked.{Reranked}
+use Rattle.rerank.specs.Rerank.{key_at, RerankIs, RerankOutcome, reranked}
 use Rattle.rerank.proofs.Ranked.{by_key_lem}
-use Rattle.agreement.specs.Count.{Listed, CountIs, all_ranked}
-use Rattle.agreement.specs.declared.Counted.{Counted}
-use Rattle.shortlist.specs.Shortlist.{KeptRows, refused_with, RankedIs}
+use Rattle.agreement.specs.Count.{Listed, CountIs, Counted}
+use Rattle.shortlist.specs.Shortlist.{KeptRows, RankedIs}
 
--- refused, by the records or by what comes before them
-pub turned : {first f : Refusal} {agree : Bool} {k : ℕ} {m s : List ℕ} {q : List Float} {eligible : ℕ → Bool} {C ks rs : List ℕ}
-    → f ≡ then_refusal first (records_refusal m s q (cond agree (passing eligible (rows_of m)) C)) → (f.number ≡ 0 → ⊥) → RankedIs first agree k m s q eligible C (refused_with f) ks rs
-turned {f} {agree} {k} {m} {s} {q} {eligible} {C} is some = record {
-  refusal = is;
-  measured = sym (is-other f (length C) 0 some);
-  total = sym (is-other f (length (passing eligible (rows_of m))) 0 some);
-  rows = λ y. absurd (some y);
-  keys = λ y. absurd (some y);
-  agreement = by agree (λ t. rw t (sym (is-other f (same_places (take k (sort (by_original m s q) C)) (all_ranked m s q eligible)) 0 some))) (λ t. rw t);
-}
-
--- the rows `given` are kept, and the rerank returned r and left e and f
+-- the rows `given` are kept, and the rerank returned `answer` and left e and f
 module _ {m : List ℕ} {eligible : ℕ → Bool} {total : ℕ} {given : List ℕ} (K : KeptRows m eligible total given) where
   abbrev P : List ℕ
   P = passing eligible (rows_of m)
@@ -57,19 +45,14 @@ module _ {m : List ℕ} {eligible : ℕ → Bool} {total : ℕ} {given : List �
   pub rows_in : {n : ℕ} → n ≡ rows_of m → RowsBelow n given
   rows_in e = rw e (rows-below (rows_of m) given low)
 
-  module _ {s : List ℕ} {q : List Float} {r : Reranked} {e f : List ℕ} (R : (C : List ℕ) → sort leb given ≡ sort leb C → RerankIs m s q C r e f) where
-    -- the whole as for the rows themselves
-    pub most : r.measured ≤ length given
-    most =
-        let M = (R given refl).measured in
-        let F = records_refusal m s q given in
-        by (eqb F.number 0)
-        (λ t. let c : r.measured ≡ length given = M ∙ rw t in omega arith)
-        (λ t. let c : r.measured ≡ 0 = M ∙ rw t in omega arith)
+  module _ {s : List ℕ} {q : List Float} (answer : Result ℕ Refused) {e f : List ℕ}
+      (R : (C : List ℕ) → sort leb given ≡ sort leb C → RerankIs m s q C (reranked answer) e f) where
+    abbrev r : RerankOutcome
+    r = reranked answer
 
     -- the first n are a list in order
-    pub listed : rows_ok m ≡ true → (n : ℕ) → n ≤ r.measured → Listed m s q eligible (take n e) (take n f)
-    listed ok n h =
+    pub listed : rows_ok m ≡ true → {w n : ℕ} (k : ℕ) → w ≡ result_unwrap_or answer 0 → n ≡ min w k → Listed m s q eligible (take n e) (take n f)
+    listed ok {w} {n} k h i =
         let G = R given refl in
         let le = by_key (key_at m s q) in
         by (eqb r.refusal.number 0)
@@ -83,6 +66,7 @@ module _ {m : List ℕ} {eligible : ℕ → Bool} {total : ℕ} {given : List �
         })
         (λ t. let some = eqb-false r.refusal.number 0 t in
         let c : r.measured ≡ 0 = G.measured ∙ is-other (records_refusal m s q given) (length given) 0 (λ y. some (rw G.refusal y)) in
+        let d = granted-is answer 0 in
         let n0 : n ≡ 0 = omega arith in
         rw n0 (record { keys = refl; up = tt; once = tt; within = λ x i. absurd i }))
 
@@ -102,32 +86,17 @@ module _ {m : List ℕ} {eligible : ℕ → Bool} {total : ℕ} {given : List �
             ap (take r.measured) ((R C alike).keys z)
             ∙ take_all r.measured (map (key_at m s q) (sort (by_original m s q) C)) (omega (arith, all-C, length-map (sort (by_original m s q) C) (key_at m s q), length_sort (by_original m s q) C))
 
-      -- a search
-      module _ {agree : Bool} {k : ℕ} (off : agree ≡ false) where
-        pub plain : r.refusal.number ≡ 0
-            → RankedIs none agree k m s q eligible C (record { refusal = r.refusal; measured = r.measured; eligible = total; agreement = 0 }) e f
-        plain z = rw off (record {
-          refusal = (R C alike).refusal;
-          measured = rw (R C alike).refusal (R C alike).measured;
-          total = K.total ∙ sym (is_done r.refusal (length P) 0 z);
-          rows = rows-C;
-          keys = keys-C;
-          agreement = refl;
-        })
-
-        pub plain-refused : (r.refusal.number ≡ 0 → ⊥) → RankedIs none agree k m s q eligible C (refused_with r.refusal) e f
-        plain-refused = turned (rw off (R C alike).refusal)
-
       -- an agreement call: the count was of the first n
       module _ {agree : Bool} {k : ℕ} (on : agree ≡ true) {c : Counted} where
-        pub counted : (n : ℕ) → n ≡ min k r.measured → CountIs m s q eligible (take n f) c → c.refusal.number ≡ 0
-            → RankedIs none agree k m s q eligible C (record { refusal = c.refusal; measured = r.measured; eligible = total; agreement = c.agreement }) e f
-        counted n is N y =
+        pub counted : {w n : ℕ} → w ≡ result_unwrap_or answer 0 → n ≡ min w k → CountIs m s q eligible (take n f) c → c.refusal.number ≡ 0
+            → RankedIs none agree k m s q eligible C (record { refusal = c.refusal; measured = w; eligible = total; agreement = c.agreement }) e f
+        counted {w} {n} h i N y =
+            let d : w ≡ r.measured = h ∙ granted-is answer 0 in
             let z : r.refusal.number ≡ 0 =
             ap (λ (x : Refusal). x.number) ((R C alike).refusal ∙ records-fewer m s q C P within-C (rw N.refusal at y)) in
             let t : take n f ≡ take k (sort (by_original m s q) C) =
-            ap (take n) ((R C alike).rows z) ∙ first_ones n (rw (all-C z) at is) in
-            rw on
+            ap (take n) ((R C alike).rows z) ∙ first_ones n (rw (d, all-C z) at i) in
+            rw (on, d)
             (record {
               refusal = N.refusal;
               measured = all-C z ∙ sym (is_done c.refusal (length C) 0 y);
@@ -137,15 +106,10 @@ module _ {m : List ℕ} {eligible : ℕ → Bool} {total : ℕ} {given : List �
               agreement = rw t at N.agreement;
             })
           where
-            first_ones : (n : ℕ) → n ≡ min k (length C) → take n (sort (by_original m s q) C) ≡ take k (sort (by_original m s q) C)
+            first_ones : (n : ℕ) → n ≡ min (length C) k → take n (sort (by_original m s q) C) ≡ take k (sort (by_original m s q) C)
             first_ones n e =
                 let l = length_sort (by_original m s q) C in
                 ⊎_elim
                 (λ (h : k < length C). let d : n ≡ k = omega arith in rw d)
                 (λ (h : length C ≤ k). take_all n (sort (by_original m s q) C) (omega arith) ∙ sym (take_all k (sort (by_original m s q) C) (omega arith)))
                 (lt_or_le k (length C))
-
-        -- that is refused
-        pub not_counted : (n : ℕ) → CountIs m s q eligible (take n f) c → (c.refusal.number ≡ 0 → ⊥)
-            → RankedIs none agree k m s q eligible C (refused_with c.refusal) e f
-        not_counted n N = turned (rw on N.refusal)

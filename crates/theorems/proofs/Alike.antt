@@ -9,7 +9,7 @@ use Rattle.float.specs.Values.{plus_zero}
 use Rattle.rank.specs.Sort.{◌∈◌, least}
 use Rattle.rank.specs.Order.{by_distance}
 use Rattle.rank.proofs.Agree.{least_agree}
-use Rattle.config.specs.declared.Refusal.{Refusal}
+use Rattle.config.specs.Refusal.{Refusal}
 use Rattle.format.specs.Fields.{rows_of}
 use Rattle.format.specs.declared.Head.{Head}
 use Rattle.format.proofs.Refusals.{refusals_agree}

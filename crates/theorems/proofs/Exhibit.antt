@@ -25,7 +25,7 @@ use Rattle.rank.specs.Limit.{by_key, exact}
 use Rattle.config.specs.Metric.{metric_of}
 use Rattle.config.specs.Space.{valid_config, valid_space}
 use Rattle.config.specs.Vector.{all, valid_vector, patterns_at}
-use Rattle.config.specs.declared.Refusal.{Refusal}
+use Rattle.config.specs.Refusal.{Refusal}
 use Rattle.codes.specs.Codes.{dot, squares}
 use Rattle.quantization.specs.Encoder.{largest_from, scale_by, not_above, code_of, encode, midpoints_of, base_levels, midpoints}
 use Rattle.math.specs.Sums.{fold2}

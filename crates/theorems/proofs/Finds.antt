@@ -14,8 +14,7 @@ use Rattle.le.proofs.Chain.{by}
 use Rattle.rank.specs.Sort.{◌∈◌, sort}
 use Rattle.rank.proofs.Members.{mem-get_or}
 use Rattle.rank.proofs.Sort.{from-sort}
-use Rattle.config.specs.Refusal.{none}
-use Rattle.config.specs.declared.Refusal.{Refusal}
+use Rattle.config.specs.Refusal.{Refusal, none}
 use Rattle.config.proofs.Refusals.{goes_on}
 use Rattle.config.proofs.Coordinates.{floats_fit}
 use Rattle.quantization.proofs.Encoded.{base, base-table}

@@ -6,7 +6,7 @@ use Prim.Native.Nat.{ℕ, ◌<◌}
 use lib.IntN.{ℤ}
 use lib.ListN.{length, take}
 use lib.Ieee.{Float}
-use Rattle.config.specs.declared.Refusal.{Refusal}
+use Rattle.config.specs.Refusal.{Refusal}
 use Rattle.config.proofs.Refusals.{is_done}
 use Rattle.quantization.specs.Encoder.{base_levels, midpoints}
 use Rattle.format.specs.Fields.{dimensions_of, rows_of}

@@ -2,8 +2,7 @@
 -- Beside it: what an accepted library is, that preparing and building refuse no record of it, and that the head test of a search is document 01's
 -- sentence on 21 (readings R3, R4).
 use Rattle.std.specs.Prelude.{◌≡◌, true, cond, ◌↔◌, List, ℕ, ◌+◌, ◌≤◌, ◌<◌, leb, ℤ, length, take, Float}
-use Rattle.config.specs.Refusal.{none, refused, refused_or}
-use Rattle.config.specs.declared.Refusal.{Refusal}
+use Rattle.config.specs.Refusal.{Refusal, none, refused, refused_or}
 use Rattle.quantization.specs.Encoder.{base_levels, midpoints}
 use Rattle.format.specs.Fields.{dimensions_of, segments_of, rows_of, table_at, length_of, id_at, segment_at, offset_at, metadata_at, record_length}
 use Rattle.format.specs.Head.{head_number, head_at, zero_head}

@@ -7,7 +7,7 @@ use Rattle.float.specs.Order.{total_below}
 use Rattle.float.specs.Values.{plus_zero}
 use Rattle.rank.specs.Sort.{◌∈◌, Distinct, Ascending}
 use Rattle.config.specs.Vector.{valid_vector}
-use Rattle.config.specs.declared.Refusal.{Refusal}
+use Rattle.config.specs.Refusal.{Refusal}
 use Rattle.quantization.specs.Encoder.{base_levels, midpoints}
 use Rattle.format.specs.Fields.{dimensions_of, rows_of, metric_at}
 use Rattle.cache_format.specs.declared.Options.{Options}

@@ -84,7 +84,7 @@ fn print_answer<W: Write>(w: &mut W, r: RowAnswer) -> Result<()> {
     match r {
         RowAnswer::Distance(x) => writeln!(w, "{}", Bits(x)),
         RowAnswer::PassedOver => writeln!(w, "passed over"),
-        RowAnswer::Refused(e) => writeln!(w, "{}", e.number),
+        RowAnswer::Refused(e) => writeln!(w, "{}", e.number.number()),
     }
 }
 
@@ -106,8 +106,12 @@ fn approximate_line(
 fn measure(metric: Metric, q: &[f64; 43], s: &[u8; 172]) -> f64
     requires { finites (floats_at 43 s.now 0) ≡ true }
 {
-    let inverse = math::inverse_norm(q);
-    math::original_distance(metric, q, inverse, s, 0)
+    let query = math::Query {
+        metric,
+        coordinates: q,
+        inverse: math::inverse_norm(q),
+    };
+    query.distance(s, 0)
 }
 
 // The original distance of a record, where it is one, to a query that is widened first.
@@ -146,8 +150,8 @@ fn distances<W: Write>(
     if let Some(x) = original_line(metric, &q, &mut wide, record) {
         writeln!(w, "{}", Bits(x))?;
     }
-    let r = math::distance_four(metric, &q, &a, &b, &c, &d);
-    let [a, b, c, d] = r.distances;
+    let four = math::distance_four(metric, &q, &a, &b, &c, &d);
+    let [a, b, c, d] = four.unwrap_or([0.0; 4]);
     writeln!(w, "{} {} {} {}", Bits(a), Bits(b), Bits(c), Bits(d))
 }
 

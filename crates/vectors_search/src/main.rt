@@ -5,26 +5,20 @@
 ghost use Rattle.std.specs.Prelude.{◌≤◌};
 
 use cache_format::{Location, Options};
-use config::{Refusal, Refused};
+use config::Refused;
+use kept::{Cached, Kept, Resident};
 use quantized_cache::CacheState;
 use resident::ResidentState;
-use search_spec::{Agreed, Place, Report, Searched};
+use search_spec::{Answers, Call, Place, Report, Work};
 use std::alloc::Global;
 use std::io::{BufRead, BufReader, BufWriter, Read, Result, Write};
 use std::num::f32_from_bits_with_nan;
 
-fn print_refusal<W: Write>(out: &mut W, e: Refusal) -> Result<()> {
-    write!(out, "{} {} ", e.number, e.place)
-}
-
-// What a check, an opening or a building refuses; 0 at 0 is nothing.
-fn refusal_of<T>(answer: &std::result::Result<T, Refused>) -> Refusal {
+// What a check, an opening, a building or a call refuses; 0 at 0 is nothing.
+fn print_refusal<W: Write, T>(out: &mut W, answer: &std::result::Result<T, Refused>) -> Result<()> {
     match answer {
-        Ok(_) => Refusal {
-            number: 0,
-            place: 0,
-        },
-        Err(refused) => Refusal::from(*refused),
+        Ok(_) => write!(out, "0 0 "),
+        Err(refused) => write!(out, "{} {} ", refused.number.number(), refused.place),
     }
 }
 
@@ -200,193 +194,6 @@ struct Library {
 
 // ---- A call.
 
-// Over which rows.
-#[derive(Clone, Copy)]
-enum Rows {
-    Cached,
-    Resident,
-}
-
-// Of all ids, or of those handed in.
-#[derive(Clone, Copy)]
-enum Ids {
-    All,
-    Wanted,
-}
-
-// What a call lends to be read, and the states that it compares.
-#[derive(Drop)]
-struct Call<'a> {
-    rows: Rows,
-    of: Ids,
-    opened: CacheState,
-    built: ResidentState,
-    manifest: &'a [u8],
-    segments: &'a [u8],
-    cache: &'a [u8],
-    codes: &'a [i8],
-    scales: &'a [f64],
-    norms: &'a [i64],
-    wanted: &'a [u64],
-    query: &'a [f32],
-    k: usize,
-    limit: usize,
-}
-
-fn run_search(c: &Call, w: &mut Written) -> Searched {
-    match (c.rows, c.of) {
-        (Rows::Cached, Ids::All) => search::cached(
-            c.opened,
-            c.manifest,
-            c.segments,
-            c.cache,
-            c.query,
-            c.k,
-            c.limit,
-            &mut w.keys,
-            &mut w.candidates,
-            &mut w.ids,
-            &mut w.distances,
-            &mut w.rows,
-            &mut w.starts,
-            &mut w.lengths,
-        ),
-        (Rows::Cached, Ids::Wanted) => search::cached_ids(
-            c.opened,
-            c.manifest,
-            c.segments,
-            c.cache,
-            c.wanted,
-            &mut w.work,
-            c.query,
-            c.k,
-            c.limit,
-            &mut w.keys,
-            &mut w.candidates,
-            &mut w.ids,
-            &mut w.distances,
-            &mut w.rows,
-            &mut w.starts,
-            &mut w.lengths,
-        ),
-        (Rows::Resident, Ids::All) => search::resident(
-            c.built,
-            c.manifest,
-            c.segments,
-            c.codes,
-            c.scales,
-            c.norms,
-            c.query,
-            c.k,
-            c.limit,
-            &mut w.keys,
-            &mut w.candidates,
-            &mut w.ids,
-            &mut w.distances,
-            &mut w.rows,
-            &mut w.starts,
-            &mut w.lengths,
-        ),
-        (Rows::Resident, Ids::Wanted) => search::resident_ids(
-            c.built,
-            c.manifest,
-            c.segments,
-            c.codes,
-            c.scales,
-            c.norms,
-            c.wanted,
-            &mut w.work,
-            c.query,
-            c.k,
-            c.limit,
-            &mut w.keys,
-            &mut w.candidates,
-            &mut w.ids,
-            &mut w.distances,
-            &mut w.rows,
-            &mut w.starts,
-            &mut w.lengths,
-        ),
-    }
-}
-
-fn run_agreement(c: &Call, w: &mut Written) -> Agreed {
-    match (c.rows, c.of) {
-        (Rows::Cached, Ids::All) => search::agreement_cached(
-            c.opened,
-            c.manifest,
-            c.segments,
-            c.cache,
-            c.query,
-            c.k,
-            c.limit,
-            &mut w.keys,
-            &mut w.candidates,
-            &mut w.ids,
-            &mut w.distances,
-            &mut w.rows,
-            &mut w.starts,
-            &mut w.lengths,
-        ),
-        (Rows::Cached, Ids::Wanted) => search::agreement_cached_ids(
-            c.opened,
-            c.manifest,
-            c.segments,
-            c.cache,
-            c.wanted,
-            &mut w.work,
-            c.query,
-            c.k,
-            c.limit,
-            &mut w.keys,
-            &mut w.candidates,
-            &mut w.ids,
-            &mut w.distances,
-            &mut w.rows,
-            &mut w.starts,
-            &mut w.lengths,
-        ),
-        (Rows::Resident, Ids::All) => search::agreement_resident(
-            c.built,
-            c.manifest,
-            c.segments,
-            c.codes,
-            c.scales,
-            c.norms,
-            c.query,
-            c.k,
-            c.limit,
-            &mut w.keys,
-            &mut w.candidates,
-            &mut w.ids,
-            &mut w.distances,
-            &mut w.rows,
-            &mut w.starts,
-            &mut w.lengths,
-        ),
-        (Rows::Resident, Ids::Wanted) => search::agreement_resident_ids(
-            c.built,
-            c.manifest,
-            c.segments,
-            c.codes,
-            c.scales,
-            c.norms,
-            c.wanted,
-            &mut w.work,
-            c.query,
-            c.k,
-            c.limit,
-            &mut w.keys,
-            &mut w.candidates,
-            &mut w.ids,
-            &mut w.distances,
-            &mut w.rows,
-            &mut w.starts,
-            &mut w.lengths,
-        ),
-    }
-}
-
 fn print_report<W: Write>(out: &mut W, r: Report) -> Result<()> {
     write!(
         out,
@@ -399,6 +206,53 @@ fn print_report<W: Write>(out: &mut W, r: Report) -> Result<()> {
         u8::from(r.approximate),
         r.count
     )
+}
+
+// Runs and prints a search, or an agreement count where one is asked for; returns how many places are looked at. A count does not
+// return that of places: the command says it.
+fn run<K: Kept, W: Write>(
+    out: &mut W,
+    kept: K,
+    call: &Call<'_>,
+    places: Option<usize>,
+    w: &mut Written,
+) -> Result<usize> {
+    let n = if call.wanted.is_some() {
+        w.work.len()
+    } else {
+        0
+    };
+    let mut work = Work {
+        keys: &mut w.keys,
+        candidates: &mut w.candidates,
+        ids: &mut w.work[..n],
+    };
+    let mut answers = Answers {
+        ids: &mut w.ids,
+        distances: &mut w.distances,
+        rows: &mut w.rows,
+        starts: &mut w.starts,
+        lengths: &mut w.lengths,
+    };
+    if let Some(count) = places {
+        let r = search::agreement(kept, call, &mut work, &mut answers);
+        print_refusal(out, &r)?;
+        write!(out, "{} ", r.unwrap_or(0))?;
+        return Ok(count);
+    }
+    let r = search::search(kept, call, &mut work, &mut answers);
+    print_refusal(out, &r)?;
+    let report = r.unwrap_or(Report {
+        generation: 0,
+        sequence: 0,
+        eligible: 0,
+        measured: 0,
+        complete: false,
+        approximate: false,
+        count: 0,
+    });
+    print_report(out, report)?;
+    Ok(report.count)
 }
 
 // A number of a command.
@@ -434,7 +288,24 @@ fn load_ids(alloc: Global, bytes: &[u8]) -> Result<Vec<u64>> {
     Ok(ids)
 }
 
-// Reads and runs a call. An agreement count does not return the count of places: the command says how many are looked at.
+// Of all ids, or of those handed in.
+fn call_of<'a>(
+    library: &'a Library,
+    wanted: Option<&'a [u64]>,
+    query: &'a [f32],
+    head: &[u8; 112],
+) -> Call<'a> {
+    Call {
+        manifest: part(&library.manifest, number(head, 24)),
+        segments: part(&library.segments, number(head, 28)),
+        wanted,
+        query,
+        k: le::u64_at(head, 8) as usize,
+        limit: le::u64_at(head, 16) as usize,
+    }
+}
+
+// Reads and runs a call.
 fn replay<R: Read, W: Write>(
     input: &mut R,
     out: &mut W,
@@ -454,45 +325,40 @@ fn replay<R: Read, W: Write>(
         load_ids(alloc, &bytes(input, alloc, n.saturating_mul(8))?)?
     };
     let kind = number(head, 4);
-    let c = Call {
-        rows: if kind & 2 == 0 {
-            Rows::Cached
-        } else {
-            Rows::Resident
-        },
-        of: if kind & 1 == 0 { Ids::All } else { Ids::Wanted },
-        opened: CacheState {
-            head: library.opened.head,
-            cache: other_than(library.opened.cache, number(head, 96)),
-        },
-        built: ResidentState {
-            head: library.built.head,
-            codes: other_than(library.built.codes, number(head, 100)),
-            scales: other_than(library.built.scales, number(head, 104)),
-            norms: other_than(library.built.norms, number(head, 108)),
-        },
-        manifest: part(&library.manifest, number(head, 24)),
-        segments: part(&library.segments, number(head, 28)),
-        cache: part(&library.cache, number(head, 32)),
-        codes: part(&library.codes, number(head, 36)),
-        scales: part(&library.scales, number(head, 40)),
-        norms: part(&library.norms, number(head, 44)),
-        wanted: &wanted,
-        query: &query,
-        k: le::u64_at(head, 8) as usize,
-        limit: le::u64_at(head, 16) as usize,
+    let wanted = if kind & 1 == 0 {
+        None
+    } else {
+        Some(wanted.as_slice())
+    };
+    let call = call_of(library, wanted, &query, head);
+    let places = if kind & 4 == 0 {
+        None
+    } else {
+        Some(number(head, 88))
     };
     let mut written = lent(alloc, head)?;
-    let count = if kind & 4 == 0 {
-        let r = run_search(&c, &mut written);
-        print_refusal(out, r.refusal)?;
-        print_report(out, r.report)?;
-        r.report.count
+    let count = if kind & 2 == 0 {
+        let cached = Cached {
+            state: CacheState {
+                head: library.opened.head,
+                cache: other_than(library.opened.cache, number(head, 96)),
+            },
+            cache: part(&library.cache, number(head, 32)),
+        };
+        run(out, cached, &call, places, &mut written)?
     } else {
-        let r = run_agreement(&c, &mut written);
-        print_refusal(out, r.refusal)?;
-        write!(out, "{} ", r.agreement)?;
-        number(head, 88)
+        let resident = Resident {
+            state: ResidentState {
+                head: library.built.head,
+                codes: other_than(library.built.codes, number(head, 100)),
+                scales: other_than(library.built.scales, number(head, 104)),
+                norms: other_than(library.built.norms, number(head, 108)),
+            },
+            codes: part(&library.codes, number(head, 36)),
+            scales: part(&library.scales, number(head, 40)),
+            norms: part(&library.norms, number(head, 44)),
+        };
+        run(out, resident, &call, places, &mut written)?
     };
     written.print(out, alloc, count)
 }
@@ -577,7 +443,7 @@ fn read_library<R: Read, W: Write>(input: &mut R, out: &mut W, alloc: Global) ->
     let mut scratch = vec![in alloc; 0; 512]?;
 
     let r = segment::check(&manifest, expected_crc, &mut scratch, &segments);
-    print_refusal(out, refusal_of(&r))?;
+    print_refusal(out, &r)?;
     let location = Location {
         platform: &platform,
         root: &root,
@@ -590,7 +456,7 @@ fn read_library<R: Read, W: Write>(input: &mut R, out: &mut W, alloc: Global) ->
         location,
         default_options(),
     );
-    print_refusal(out, refusal_of(&opened))?;
+    print_refusal(out, &opened)?;
     let built = resident::build(
         &manifest,
         expected_crc,
@@ -600,7 +466,7 @@ fn read_library<R: Read, W: Write>(input: &mut R, out: &mut W, alloc: Global) ->
         &mut scales,
         &mut norms,
     );
-    print_refusal(out, refusal_of(&built))?;
+    print_refusal(out, &built)?;
     writeln!(out)?;
     add_spare(&mut manifest, 0)?;
     add_spare(&mut segments, 0)?;

@@ -1,32 +1,40 @@
 use mathlib.Core.Path.{sym, ◌∙◌}
 use native.Mathlib.Omega.{arith}
+use Rattle.std.proofs.lemmas.Result.{err_from_is_err_and}
+use Rattle.config.proofs.Numbers.{some_number}
 use Rattle.eligible.proofs.Walk.{begun}
-use Rattle.agreement.proofs.Counting.{counting_start, both_long, counting_skip, counting_turn, counting_stop, counting_end}
+use Rattle.search_spec.specs.Lent.{wanted_of}
+use Rattle.eligible.specs.Walk.{ids_of}
+use Rattle.agreement.proofs.Counting.{counting_start, counting_skip, counting_turn, counting_stop, counting_end}
 use Rattle.agreement.proofs.count.Goals as goal
-use Rattle.agreement.proofs.count.Goals.{else-e, then-e+in-Key}
+use Rattle.agreement.proofs.count.Goals.{then-e+in_ok-key, else-e}
 
 pub loop-row-init : goal.loop-row-init
-loop-row-init c = (omega arith, begun c.args.m.now c.args.sorted.now, counting_start c.requires.listed)
+loop-row-init c = (begun c.args.original.now.library.manifest.bytes.now (ids_of (wanted_of c.args.wanted)), counting_start c.requires.listed)
 
-pub ahead-n-requires : goal.ahead-n-requires
-ahead-n-requires c = both_long c.requires.listed c.loop-row.invariant.2
-
-pub returns-in-Refused : goal.returns-in-Refused
-returns-in-Refused c =
-    counting_stop c.requires.listed c.loop-row.invariant.2 (omega (arith, c.loop-row-test.true, c.requires.located.0.placed.rows)) (sym c.row_step-e.ensures.is ∙ c.if-e.true) (sym c.in-Refused.is ∙ c.measure_one-a.ensures)
+pub returns-in_err-key : goal.returns-in_err-key
+returns-in_err-key c =
+    let p = err_from_is_err_and c.from_residual.result c.from_residual.ensures.1 in
+    let m = c.table-table.ensures.0 in
+    let t = rw m at c.row_step-e.ensures in
+    let h = rw m at (rw c.table-table.result.manifest.laid_out.rows at c.loop-row-test.true) in
+    rw (p.1, p.2) (counting_stop c.requires.listed c.loop-row.invariant.1 h (sym t.is ∙ c.if-e.true) (some_number c.in_err-key.field-0.0.number) c.in_err-key.ensures.refused)
 
 pub loop-row-preserved : goal.loop-row-preserved
 loop-row-preserved c =
-    let l = c.loop-row in
-    let t = c.row_step-e.ensures in (
-      omega (arith, c.loop-row-test.true),
+    let L = c.requires.listed in
+    let C = c.loop-row.invariant.1 in
+    let m = c.table-table.ensures.0 in
+    let t = rw m at c.row_step-e.ensures in
+    let h = rw m at (rw c.table-table.result.manifest.laid_out.rows at c.loop-row-test.true) in (
       t.next,
       elim c.if-e.branch [
-        | then-e+in-Key w ↦ rw w.n-is (counting_turn c.requires.listed l.invariant.2 (omega (arith, c.loop-row-test.true, c.requires.located.0.placed.rows)) (sym t.is ∙ w.if-e.true) (sym w.in-Key.is ∙ w.measure_one-a.ensures) w.ahead-n.ensures)
-        | else-e w ↦ rw w.n-is (counting_skip c.requires.listed l.invariant.2 (sym t.is ∙ w.if-e.false))
+        | then-e+in_ok-key w ↦ rw w.n-is (counting_turn L C h (sym t.is ∙ w.if-e.true) w.in_ok-key.ensures.refused w.in_ok-key.ensures.key w.ahead-n.ensures)
+        | else-e w ↦ rw w.n-is (counting_skip L C (sym t.is ∙ w.if-e.false))
       ],
     )
 
 pub returns : goal.returns
 returns c =
-    counting_end c.requires.listed c.loop-row.invariant.2 (omega (arith, c.loop-row.invariant.0, c.loop-row-test.false, c.requires.located.0.placed.rows))
+    let p = rw c.table-table.ensures.0 at c.table-table.result.manifest.laid_out.rows in
+    counting_end c.requires.listed c.loop-row.invariant.1 (omega (arith, c.loop-row.auto.row-end, c.loop-row-test.false, p))

@@ -1,7 +1,6 @@
-use mathlib.Core.Path.{ap}
+use Rattle.api.proofs.Slices.{no-ids}
 use Rattle.api.proofs.pv_agreement_cached.Goals as goal
 
 pub returns : goal.returns
 returns c =
-    let e = rw c.read_cache-accepted.ensures at c.agreement_cached-answer.ensures in
-    (ap (λ s. s.refusal.number) e.0, ap (λ s. s.refusal.place) e.0, ap (λ s. s.agreement) e.0, e.1, e.2)
+    let e = rw c.read_cache.ensures at c.counted.ensures in (e.0, e.1, e.2, e.3, no-ids c.counted.auto.id_work e.4)

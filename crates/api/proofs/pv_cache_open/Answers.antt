@@ -3,7 +3,7 @@ use Rattle.config.specs.Told.{granted}
 use Rattle.format.specs.declared.Head.{Head}
 use Rattle.quantized_cache.specs.declared.CacheState.{CacheState}
 use Rattle.api_state.specs.Bytes.{bytes_of_cache, cache_in}
-use Rattle.api.proofs.Granted.{granted-is}
+use Rattle.config.proofs.Granted.{granted-is}
 use Rattle.api.proofs.pv_cache_open.Goals as goal
 
 -- the state of no head

@@ -1,7 +1,7 @@
 use mathlib.Core.Path.{ap, ◌∙◌}
 use Rattle.api_answers.specs.Numbers.{info_numbers}
 use Rattle.prepare.specs.Prepare.{no_info}
-use Rattle.api.proofs.Granted.{granted-is}
+use Rattle.config.proofs.Granted.{granted-is}
 use Rattle.api.proofs.pv_cache_prepare.Goals as goal
 
 pub returns : goal.returns

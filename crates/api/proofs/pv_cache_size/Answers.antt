@@ -1,5 +1,5 @@
 use mathlib.Core.Path.{ap, ◌∙◌}
-use Rattle.api.proofs.Granted.{granted-is}
+use Rattle.config.proofs.Granted.{granted-is}
 use Rattle.api.proofs.pv_cache_size.Goals as goal
 
 pub returns : goal.returns

@@ -2,7 +2,7 @@ use mathlib.Core.Path.{ap, ◌∙◌}
 use Rattle.config.specs.Told.{granted}
 use Rattle.format.specs.declared.Head.{Head}
 use Rattle.api_state.specs.Bytes.{head_bytes, head_in}
-use Rattle.api.proofs.Granted.{granted-is}
+use Rattle.config.proofs.Granted.{granted-is}
 use Rattle.api.proofs.pv_manifest_check.Goals as goal
 
 pub returns : goal.returns

@@ -3,7 +3,7 @@ use Rattle.config.specs.Told.{granted}
 use Rattle.format.specs.declared.Head.{Head}
 use Rattle.resident.specs.declared.ResidentState.{ResidentState}
 use Rattle.api_state.specs.Bytes.{resident_bytes, resident_in}
-use Rattle.api.proofs.Granted.{granted-is}
+use Rattle.config.proofs.Granted.{granted-is}
 use Rattle.api.proofs.pv_resident_build.Goals as goal
 
 -- the state of no head

@@ -1,8 +1,6 @@
-use mathlib.Core.Path.{ap, ◌∙◌}
-use Rattle.api_answers.specs.Numbers.{report_numbers}
+use Rattle.api.proofs.Slices.{no-ids}
 use Rattle.api.proofs.pv_search_cached.Goals as goal
 
 pub returns : goal.returns
 returns c =
-    let e = rw c.read_cache-accepted.ensures at c.cached-answer.ensures in
-    (ap (λ s. s.refusal.number) e.0, ap (λ s. s.refusal.place) e.0, c.report_numbers.ensures ∙ ap (λ s. report_numbers s.report) e.0, e.1, e.2)
+    let e = rw c.read_cache.ensures at c.searched.ensures in (e.0, e.1, e.2, e.3, no-ids c.searched.auto.id_work e.4)

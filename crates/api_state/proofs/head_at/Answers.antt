@@ -5,14 +5,14 @@ use borrow.Author.Tests.{le-leb, lt-leb}
 use Rattle.api_state.specs.Bytes.{head_at}
 use Rattle.api_state.proofs.head_at.Goals as goal
 
-pub returns-then-u64_at-gt2 : goal.returns-then-u64_at-gt2
+pub returns-then-unknown : goal.returns-then-unknown
 unfolding head_at
-returns-then-u64_at-gt2 c =
-    rw (← c.u64_at.ensures, lt-leb _ _ c.if-u64_at-gt2.true) c.zero_head.ensures
+returns-then-unknown c =
+    rw (← c.u64_at-unknown.ensures, lt-leb _ _ c.if-unknown.true) c.zero_head.ensures
 
 pub returns : goal.returns
 unfolding head_at
 returns c =
     let a = c.args in
     let model = c.read_model.ensures ∙ append-nil (take 512 (drop a.at a.b.now)) in
-    rw (c.u64_at-7.ensures, c.u64_at-6.ensures, model, c.u64_at-5.ensures, c.read_config.ensures, c.u64_at-4.ensures, c.u64_at-3.ensures, c.u64_at-2.ensures, le-leb _ _ (rw c.u64_at.ensures at c.if-u64_at-gt2.false))
+    rw (c.u64_at-6.ensures, c.u64_at-5.ensures, model, c.u64_at-4.ensures, c.read_config.ensures, c.u64_at-3.ensures, c.u64_at-2.ensures, c.u64_at.ensures, le-leb _ _ (rw c.u64_at-unknown.ensures at c.if-unknown.false))

@@ -1,238 +1,107 @@
 use native.Mathlib.Omega.{arith}
-use mathlib.Core.Path.{◌≡◌, sym, ap, ◌∙◌}
-use mathlib.Core.Bool.{true}
-use mathlib.Core.List.{List, []}
-use Prim.Native.Nat.{ℕ, ◌≤◌}
-use lib.Dec.{leb}
-use lib.ListN.{length, take}
+use mathlib.Core.Path.{refl, sym, ap, ◌∙◌}
+use mathlib.Core.List.{[]}
+use Prim.Native.Nat.{◌≤◌}
+use lib.ListN.{length}
 use lib.Seq.{length-take-le}
-use Rattle.rank.specs.Sort.{Ascending}
-use Rattle.config.proofs.Refusals.{not_zero}
-use Rattle.format.specs.Fields.{rows_of}
-use Rattle.format.proofs.Same.{same_parts}
-use Rattle.entries.specs.Plan.{bad_entry, rows_ok}
-use Rattle.entries.proofs.Entries.{rows_by}
-use Rattle.eligible.specs.Walk.{sorted_ids}
-use Rattle.eligible.proofs.Walk.{front, ordered_same, ordered-rows, ordered-rises}
-use Rattle.search_spec.specs.Lent.{Rows, Call, given, handed, everyone, answers_of, work_of, call_of}
-use Rattle.search_spec.specs.Tests.{room_of}
-use Rattle.kept.specs.Seen.{seen}
-use Rattle.ranked.specs.Ends.{looked_at}
+use Rattle.std.specs.Prelude.{Err}
+use Rattle.std.proofs.lemmas.Result.{err_from_is_err_and}
+use Rattle.config.specs.declared.Number.TheVariants.{Changed}
+use Rattle.search_spec.specs.Lent.{work_of}
 use Rattle.search_spec.specs.Lists.{eligible_rows}
-use Rattle.search_spec.proofs.Passed.{Front, front as passed-front, low-limit}
+use Rattle.search_spec.proofs.Passed.{front, low-limit}
+use Rattle.ranked.specs.Ends.{looked_at}
 use Rattle.ranked.proofs.Ended.{turned, done, ends_as, report-none}
-use Rattle.call.proofs.Ended.{entries_pass, entries_none, late-entries, late-none, late-short, late-rest, none_filled, none_agree, same-eligible}
-use Rattle.ranked.proofs.Found.{fits-room, ids-room, fits-other}
+use Rattle.call.specs.Whole.{worked_call}
+use Rattle.call.proofs.Wanted.{ordered}
+use Rattle.call.proofs.Passed.{lengths-hold, ids-fit, rest-fits, long_enough}
+use Rattle.call.proofs.Ended.{late-entries, late-none, late-short, late-rest, none_filled, none_agree, same-eligible}
 use Rattle.call.proofs.past.Goals as goal
 
-abbrev call : goal.After-turned_away → Call
-call c = let a = c.args in call_of a.m.now a.segments.now (given a.all a.wanted.now) a.query.now a.k a.limit (answers_of a.ids.now a.distances.now a.rows.now a.places.now a.lengths.now) (work_of a.keys.now a.candidates.now a.work.now)
-
-abbrev call-2 : goal.After-report_of-report → Call
-call-2 c = let a = c.args in call_of a.m.now a.segments.now (given a.all a.wanted.now) a.query.now a.k a.limit (answers_of a.ids.now a.distances.now a.rows.now a.places.now a.lengths.now) (work_of a.keys.now a.candidates.now a.work.now)
-
-abbrev call-3 : goal.After-turned_away-then-not-length_holds → Call
-call-3 c = let a = c.args in call_of a.m.now a.segments.now (given a.all a.wanted.now) a.query.now a.k a.limit (answers_of a.ids.now a.distances.now a.rows.now a.places.now a.lengths.now) (work_of a.keys.now a.candidates.now a.work.now)
-
-abbrev call-4 : goal.After-slice_known-16-1 → Call
-call-4 c = let a = c.args in call_of a.m.now a.segments.now (given a.all a.wanted.now) a.query.now a.k a.limit (answers_of a.ids.now a.distances.now a.rows.now a.places.now a.lengths.now) (work_of a.keys.now a.candidates.now a.work.now)
-
-abbrev call-5 : goal.After-ranked-arg-7-1 → Call
-call-5 c = let a = c.args in call_of a.m.now a.segments.now (given a.all a.wanted.now) a.query.now a.k a.limit (answers_of a.ids.now a.distances.now a.rows.now a.places.now a.lengths.now) (work_of a.keys.now a.candidates.now a.work.now)
-
-abbrev call-6 : goal.After-slice_known-8-1 → Call
-call-6 c = let a = c.args in call_of a.m.now a.segments.now (given a.all a.wanted.now) a.query.now a.k a.limit (answers_of a.ids.now a.distances.now a.rows.now a.places.now a.lengths.now) (work_of a.keys.now a.candidates.now a.work.now)
-
-abbrev call-7 : goal.After-select-arg-1 → Call
-call-7 c = let a = c.args in call_of a.m.now a.segments.now (given a.all a.wanted.now) a.query.now a.k a.limit (answers_of a.ids.now a.distances.now a.rows.now a.places.now a.lengths.now) (work_of a.keys.now a.candidates.now a.work.now)
-
-abbrev call-8 : goal.Then-k-eq0 → Call
-call-8 c = let a = c.args in call_of a.m.now a.segments.now (given a.all a.wanted.now) a.query.now a.k a.limit (answers_of a.ids.now a.distances.now a.rows.now a.places.now a.lengths.now) (work_of a.keys.now a.candidates.now a.work.now)
-
-abbrev call-9 : goal.Else-not-length_holds → Call
-call-9 c = let a = c.args in call_of a.m.now a.segments.now (given a.all a.wanted.now) a.query.now a.k a.limit (answers_of a.ids.now a.distances.now a.rows.now a.places.now a.lengths.now) (work_of a.keys.now a.candidates.now a.work.now)
-
-abbrev view : goal.After-turned_away → Rows
-view c = let a = c.args in seen a.kept a.m.now a.cache.now a.codes.now a.scales.now a.norms.now
-
-abbrev view-2 : goal.After-report_of-report → Rows
-view-2 c = let a = c.args in seen a.kept a.m.now a.cache.now a.codes.now a.scales.now a.norms.now
-
-abbrev view-3 : goal.After-turned_away-then-not-length_holds → Rows
-view-3 c = let a = c.args in seen a.kept a.m.now a.cache.now a.codes.now a.scales.now a.norms.now
-
-abbrev view-4 : goal.After-slice_known-16-1 → Rows
-view-4 c = let a = c.args in seen a.kept a.m.now a.cache.now a.codes.now a.scales.now a.norms.now
-
-abbrev view-5 : goal.After-ranked-arg-7-1 → Rows
-view-5 c = let a = c.args in seen a.kept a.m.now a.cache.now a.codes.now a.scales.now a.norms.now
-
-abbrev looked : goal.After-turned_away → List ℕ
-looked c = looked_at c.args.agree (view c) (call c)
-
-abbrev looked-2 : goal.After-report_of-report → List ℕ
-looked-2 c = looked_at c.args.agree (view-2 c) (call-2 c)
-
-abbrev looked-3 : goal.After-turned_away-then-not-length_holds → List ℕ
-looked-3 c = looked_at c.args.agree (view-3 c) (call-3 c)
-
-abbrev looked-4 : goal.After-slice_known-16-1 → List ℕ
-looked-4 c = looked_at c.args.agree (view-4 c) (call-4 c)
-
-passed : (c : goal.After-ranked-arg-7-1) → Front c.args.kept.head (call-5 c)
-passed c = passed-front c.args.kept.head (call-5 c) c.requires
-
-passed-2 : (c : goal.After-slice_known-8-1) → Front c.args.kept.head (call-6 c)
-passed-2 c = passed-front c.args.kept.head (call-6 c) c.requires
-
-passed-3 : (c : goal.After-select-arg-1) → Front c.args.kept.head (call-7 c)
-passed-3 c = passed-front c.args.kept.head (call-7 c) c.requires
-
-passed-4 : (c : goal.Then-k-eq0) → Front c.args.kept.head (call-8 c)
-passed-4 c = passed-front c.args.kept.head (call-8 c) c.requires
-
-passed-5 : (c : goal.Else-not-length_holds) → Front c.args.kept.head (call-9 c)
-passed-5 c = passed-front c.args.kept.head (call-9 c) c.requires
-
-pass : (c : goal.After-report_of-report) → bad_entry c.args.m.now ≡ rows_of c.args.m.now
-pass c = entries_pass c.args.m.now c.entries-bad.ensures c.if-bad-ne0.false
-
-pass-2 : (c : goal.After-turned_away-then-not-length_holds) → bad_entry c.args.m.now ≡ rows_of c.args.m.now
-pass-2 c = entries_pass c.args.m.now c.entries-bad.ensures c.if-bad-ne0.false
-
-pass-3 : (c : goal.After-slice_known-16-1) → bad_entry c.args.m.now ≡ rows_of c.args.m.now
-pass-3 c = entries_pass c.args.m.now c.entries-bad.ensures c.if-bad-ne0.false
-
-pass-4 : (c : goal.After-ranked-arg-7-1) → bad_entry c.args.m.now ≡ rows_of c.args.m.now
-pass-4 c = entries_pass c.args.m.now c.entries-bad.ensures c.if-bad-ne0.false
-
-pass-5 : (c : goal.Then-k-eq0) → bad_entry c.args.m.now ≡ rows_of c.args.m.now
-pass-5 c = entries_pass c.args.m.now c.entries-bad.ensures c.if-bad-ne0.false
-
-rows_hold : (c : goal.After-ranked-arg-7-1) → rows_ok c.args.m.now ≡ true
-rows_hold c = rows_by c.args.m.now (same_parts c.args.m.now c.args.kept.head (passed c).same).2 (pass-4 c)
-
-rows_hold-2 : (c : goal.Then-k-eq0) → rows_ok c.args.m.now ≡ true
-rows_hold-2 c = rows_by c.args.m.now (same_parts c.args.m.now c.args.kept.head (passed-4 c).same).2 (pass-5 c)
-
-ids-fit : (c : goal.After-select-arg-1) → handed (given c.args.all c.args.wanted.now) ≤ length c.args.work.now
-ids-fit c = let k = call-7 c in ids-room (rows_of k.manifest) k.k k.limit (handed k.wanted) (room_of k.answers k.work) (passed-3 c).room
-
-ids-fit-2 : (c : goal.Then-k-eq0) → handed (given c.args.all c.args.wanted.now) ≤ length c.args.work.now
-ids-fit-2 c = let k = call-8 c in ids-room (rows_of k.manifest) k.k k.limit (handed k.wanted) (room_of k.answers k.work) (passed-4 c).room
-
-ids-fit-3 : (c : goal.Else-not-length_holds) → handed (given c.args.all c.args.wanted.now) ≤ length c.args.work.now
-ids-fit-3 c = let k = call-9 c in ids-room (rows_of k.manifest) k.k k.limit (handed k.wanted) (room_of k.answers k.work) (passed-5 c).room
-
-length-is : (c : goal.After-turned_away-then-not-length_holds) → c.length_holds.result ≡ (view-3 c).length_ok
-length-is c = c.length_holds.ensures
-
-length-is-2 : (c : goal.After-ranked-arg-7-1) → c.length_holds.result ≡ (view-5 c).length_ok
-length-is-2 c = c.length_holds.ensures
-
--- the front of the id slice
-sorted-long : (c : goal.Then-k-eq0) → c.select-n.result ≤ length c.select-n.new.work
-sorted-long c = let e = c.select-n.ensures.value in let h = ids-fit-2 c in let k = c.select-n.auto.work in omega (arith, e, h, k)
-
--- the front of the id slice
-sorted-long-2 : (c : goal.Else-not-length_holds) → c.select-n.result ≤ length c.select-n.new.work
-sorted-long-2 c = let e = c.select-n.ensures.value in let h = ids-fit-3 c in let k = c.select-n.auto.work in omega (arith, e, h, k)
-
-sorted-cut : (c : goal.Then-k-eq0) → c.select-n.result ≡ length (take c.select-n.result c.select-n.new.work)
-sorted-cut c = sym (length-take-le c.select-n.result c.select-n.new.work (sorted-long c))
-
-sorted-cut-2 : (c : goal.Else-not-length_holds) → c.select-n.result ≡ length (take c.select-n.result c.select-n.new.work)
-sorted-cut-2 c = sym (length-take-le c.select-n.result c.select-n.new.work (sorted-long-2 c))
-
-sorted-is : (c : goal.After-report_of-report) → take c.select-n.result c.select-n.new.work ≡ sorted_ids (call-2 c).wanted
-sorted-is c = let w = (call-2 c).wanted in ap (λ n. take n c.select-n.new.work) c.select-n.ensures.value ∙ ap (take (handed w)) c.select-n.ensures.work_after ∙ front w _
-
-sorted-is-2 : (c : goal.After-slice_known-16-1) → take c.select-n.result c.select-n.new.work ≡ sorted_ids (call-4 c).wanted
-sorted-is-2 c = let w = (call-4 c).wanted in ap (λ n. take n c.select-n.new.work) c.select-n.ensures.value ∙ ap (take (handed w)) c.select-n.ensures.work_after ∙ front w _
-
-sorted-is-3 : (c : goal.After-ranked-arg-7-1) → take c.select-n.result c.select-n.new.work ≡ sorted_ids (call-5 c).wanted
-sorted-is-3 c = let w = (call-5 c).wanted in ap (λ n. take n c.select-n.new.work) c.select-n.ensures.value ∙ ap (take (handed w)) c.select-n.ensures.work_after ∙ front w _
-
-sorted-is-4 : (c : goal.Then-k-eq0) → take c.select-n.result c.select-n.new.work ≡ sorted_ids (call-8 c).wanted
-sorted-is-4 c = let w = (call-8 c).wanted in ap (λ n. take n c.select-n.new.work) c.select-n.ensures.value ∙ ap (take (handed w)) c.select-n.ensures.work_after ∙ front w _
-
-sorted_rises : (c : goal.After-ranked-arg-7-1) → Ascending leb (take c.select-n.result c.select-n.new.work)
-sorted_rises c = rw (sorted-is-3 c) (ordered-rises (call-5 c).wanted)
-
-sorted_rises-2 : (c : goal.Then-k-eq0) → Ascending leb (take c.select-n.result c.select-n.new.work)
-sorted_rises-2 c = rw (sorted-is-4 c) (ordered-rises (call-8 c).wanted)
-
-pub returns-then-bad-ne0 : goal.returns-then-bad-ne0
-returns-then-bad-ne0 c =
-    ends_as (late-entries (view c) (call c) (looked c) c.entries-bad.ensures c.if-bad-ne0.true) (turned c.if-bad-ne0.true c.turned_away.ensures)
-
-pub returns-then-k-eq0 : goal.returns-then-k-eq0
-unfolding eligible_rows
-returns-then-k-eq0 c =
+pub check_entries-requires : goal.check_entries-requires
+check_entries-requires g c =
     let a = c.args in
-    let z = c.if-k-eq0.true in
-    let n = c.if-bad-ne0.false in
-    ends_as (entries_none a.m.now c.entries-bad.ensures n ∙ late-none (view-2 c) (call-2 c) (looked-2 c) (pass c) z)
-    (done n
-    (c.report_of-report.ensures ∙ report-none (view-2 c) (call-2 c) (c.count-total.ensures ∙ rw (sorted-is c) (ap length (ordered-rows a.all a.wanted.now everyone a.m.now))) z)
-    (none_agree a.agree (view-2 c) (call-2 c) z) (none_filled (view-2 c) (call-2 c) z))
+    rw c.requires.0 (lengths-hold (g.K.Kept.head_of a.kept) (worked_call a.call.now a.answers.now a.keys.now a.candidates.now a.ids.now) c.requires.1)
 
-pub returns-then-not-length_holds : goal.returns-then-not-length_holds
-returns-then-not-length_holds c =
-    ends_as (late-short (view-3 c) (call-3 c) (looked-3 c) (pass-2 c) c.if-k-eq0.false (rw (length-is c) at c.if-not-length_holds.true))
-    (turned not_zero c.turned_away-then-not-length_holds.ensures)
-
-pub returns : goal.returns
-returns c =
+pub returns-in_err-table-clause-fact : goal.returns-in_err-table-clause-fact
+returns-in_err-table-clause-fact g c =
     let a = c.args in
-    let k = call-4 c in
-    ends_as (late-rest (view-4 c) k (looked-4 c) (pass-3 c) c.if-k-eq0.false)
-    (same-eligible a.agree (view-4 c) a.m.now a.segments.now a.query.now a.k a.limit k.answers (work_of a.keys.now a.candidates.now []) k.work
-    (rw (sorted-is-2 c) (ordered_same a.all a.wanted.now everyone a.m.now)) c.ranked.ensures)
-
-pub ranked-requires : goal.ranked-requires
-ranked-requires c =
-    let a = c.args in
-    let k = call-5 c in
-    let P = c.read_layout-layout.ensures in
-    let f = passed c in record {
-      laid_out = (P, rows_hold c, (rw (length-is-2 c) at c.if-not-length_holds.false), c.if-k-eq0.false, low-limit f);
-      ascending = (
-        sorted_rises c,
-        f.query,
-        rw P.rows (fits-other k.answers a.keys.now a.candidates.now a.work.now [] (fits-room (rows_of a.m.now) a.k a.limit (handed k.wanted) (room_of k.answers k.work) f.room)),
-      );
-    }
-
-pub read_layout-layout-requires : goal.read_layout-layout-requires
-read_layout-layout-requires c = (same_parts c.args.m.now c.args.kept.head (passed-2 c).same).0
-
-pub entries-bad-requires : goal.entries-bad-requires
-entries-bad-requires c = c.read_layout-layout.ensures
+    let k = worked_call a.call.now a.answers.now a.keys.now a.candidates.now a.ids.now in
+    let v = g.K.Kept.seen a.kept k.manifest in
+    let p = err_from_is_err_and c.from_residual.result c.from_residual.ensures.1 in
+    ends_as (late-entries v k (looked_at a.agree v k) c.in_err-table.field-0.0 (rw c.requires.0 at c.in_err-table.ensures.told)) (turned (p.1 ∙ ap (λ x. Err x) p.2))
 
 pub select-n-requires : goal.select-n-requires
-select-n-requires c = ids-fit c
+select-n-requires g c =
+    let a = c.args in
+    ids-fit (g.K.Kept.head_of a.kept) (worked_call a.call.now a.answers.now a.keys.now a.candidates.now a.ids.now) c.requires.1
 
-pub slice_bounds-count-end : goal.slice_bounds-count-end
-slice_bounds-count-end c = sorted-long c
+-- the front of the id slice
+long : (g : _) (c : goal.After-and-arg-1 g) → c.select-n.result ≤ length c.select-n.new.work
+long g c =
+    let a = c.args in
+    let f = ids-fit (g.K.Kept.head_of a.kept) (worked_call a.call.now a.answers.now a.keys.now a.candidates.now a.ids.now) c.requires.1 in
+    let e = c.select-n.ensures.value in
+    let k = c.select-n.auto.work in
+    omega (arith, e, f, k)
 
-pub slice_bounds-count-end-then-k-eq0 : goal.slice_bounds-count-end-then-k-eq0
-slice_bounds-count-end-then-k-eq0 c = sorted-cut c
+pub slice_bounds-and-end : goal.slice_bounds-and-end
+slice_bounds-and-end g c = long g c
+
+pub slice_bounds-and-end-2 : goal.slice_bounds-and-end-2
+slice_bounds-and-end-2 g c = sym (length-take-le c.select-n.result c.select-n.new.work (long g c))
 
 pub count-total-requires : goal.count-total-requires
-count-total-requires c = (c.read_layout-layout.ensures, rows_hold-2 c, sorted_rises-2 c)
+count-total-requires g c = (ordered c.args.call.now.wanted _ _ c.select-n.ensures.value c.select-n.ensures.work_after refl c.and-wanted.ensures).rises
 
-pub report_of-report-requires : goal.report_of-report-requires
-report_of-report-requires c = c.read_layout-layout.ensures.long
+pub returns-then-call-eq0-clause-fact : goal.returns-then-call-eq0-clause-fact
+unfolding eligible_rows
+returns-then-call-eq0-clause-fact g c =
+    let a = c.args in
+    let k = worked_call a.call.now a.answers.now a.keys.now a.candidates.now a.ids.now in
+    let v = g.K.Kept.seen a.kept k.manifest in
+    let o = ordered a.call.now.wanted _ _ c.select-n.ensures.value c.select-n.ensures.work_after refl c.and-wanted.ensures in
+    let z = c.if-call-eq0.true in
+    let t = c.in_ok-table.ensures in
+    let m = c.requires.0 in
+    ends_as (late-none v k (looked_at a.agree v k) (rw m at t.told) z)
+    (done
+    (c.report_of.ensures ∙ rw m (report-none v k (c.count-total.ensures ∙ rw (t.same.0, m) (ap length (o.rows k.manifest))) z))
+    (none_agree a.agree v k z) (none_filled v k z))
 
-pub length_holds-requires : goal.length_holds-requires
-length_holds-requires c = c.read_layout-layout.ensures
+pub ranked-requires-clause-call : goal.ranked-requires-clause-call
+ranked-requires-clause-call g c =
+    let a = c.args in
+    let n = c.if-call-eq0.false in
+    let f = front (g.K.Kept.head_of a.kept) (worked_call a.call.now a.answers.now a.keys.now a.candidates.now a.ids.now) c.requires.1 in (
+      c.in_ok-table.ensures.same.0 ∙ c.requires.0,
+      omega (arith, n),
+      low-limit f,
+      f.query,
+      (ordered a.call.now.wanted _ _ c.select-n.ensures.value c.select-n.ensures.work_after refl c.and-wanted.ensures).rises,
+    )
 
-pub slice_bounds-ranked-end : goal.slice_bounds-ranked-end
-slice_bounds-ranked-end c = sorted-long-2 c
+pub ranked-requires-clause-fits : goal.ranked-requires-clause-fits
+ranked-requires-clause-fits g c =
+    let a = c.args in
+    rest-fits (g.K.Kept.head_of a.kept) (worked_call a.call.now a.answers.now a.keys.now a.candidates.now a.ids.now) c.requires.1 (c.in_ok-table.ensures.same.0 ∙ c.requires.0) c.in_ok-table.table.manifest.laid_out.rows
 
-pub slice_bounds-ranked-end-2 : goal.slice_bounds-ranked-end-2
-slice_bounds-ranked-end-2 c = sorted-cut-2 c
+pub returns-in-Some-clause-fact : goal.returns-in-Some-clause-fact
+returns-in-Some-clause-fact g c =
+    let a = c.args in
+    let k = worked_call a.call.now a.answers.now a.keys.now a.candidates.now a.ids.now in
+    let v = g.K.Kept.seen a.kept k.manifest in
+    let o = ordered a.call.now.wanted _ _ c.select-n.ensures.value c.select-n.ensures.work_after refl c.and-wanted.ensures in
+    let r = c.in-Some.ensures in
+    ends_as (late-rest v k (looked_at a.agree v k) (rw c.requires.0 at c.in_ok-table.ensures.told) c.if-call-eq0.false)
+    (same-eligible a.agree v a.call.now a.answers.now c.and-wanted.result a.call.now.wanted (work_of a.keys.now a.candidates.now []) k.work (o.same k.manifest)
+    (c.ranked.ensures.fact v (g.met.K.Kept.of_base a.kept k.manifest) (long_enough (rw c.requires.0 at r.none.1)) (rw c.requires.0 at (sym r.some.0))))
 
-pub shape_of-work : goal.shape_of-work
-shape_of-work c = c.select-n.auto.work
+pub returns-in-None-clause-fact : goal.returns-in-None-clause-fact
+returns-in-None-clause-fact g c =
+    let a = c.args in
+    let k = worked_call a.call.now a.answers.now a.keys.now a.candidates.now a.ids.now in
+    let v = g.K.Kept.seen a.kept k.manifest in
+    ends_as
+    (late-short v k (looked_at a.agree v k) (rw c.requires.0 at c.in_ok-table.ensures.told) c.if-call-eq0.false (rw c.requires.0 at (c.in-None.ensures.none.0 refl)))
+    (turned {r = Err (record { number = Changed; place = 0 })} refl)

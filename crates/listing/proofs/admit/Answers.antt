@@ -3,7 +3,7 @@ use mathlib.Core.List.{List}
 use Prim.Native.Nat.{ℕ}
 use Rattle.std.specs.Prelude.{Ok, Err}
 use Rattle.std.proofs.lemmas.Result.{err_from_is_err_and}
-use Rattle.config.specs.declared.Refusal.{Refusal}
+use Rattle.config.specs.Refusal.{Refusal}
 use Rattle.config.proofs.Numbers.{some_number}
 use Rattle.cache_format.specs.declared.Options.{Options}
 use Rattle.manifest.specs.Check.{Checked, outcome, checked}

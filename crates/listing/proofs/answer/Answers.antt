@@ -31,7 +31,7 @@ returns-in-Err-clause-put c =
     let f = all_of w in
     let x = c.in-Err.refused in
     let e : open_outcome (Err x) ≡ admission f = rw c.in-Err.is at (admits f w.newline (open_outcome c.admit.result) w.parted c.admit.ensures) in
-    put_same (ap refusal_text (c.from.ensures ∙ ap (λ (o : Opened). o.refusal) e)
+    put_same (ap refusal_text (ap (λ (o : Opened). o.refusal) e)
     ∙ refused-answer f (λ z. some_number x.number (ap (λ (o : Opened). o.refusal.number) e ∙ z))) c.write_refusal.ensures.put
 
 pub returns-in-Ok-clause-put : goal.returns-in-Ok-clause-put

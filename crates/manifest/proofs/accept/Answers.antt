@@ -8,7 +8,7 @@ use Rattle.config.proofs.Numbers.{some_number}
 use Rattle.entries.specs.Plan.{plan_number}
 use Rattle.manifest.specs.Tiling.{tiled}
 use Rattle.manifest.specs.Check.{manifest_number, scratch_held}
-use Rattle.manifest.proofs.Passed.{planned}
+use Rattle.manifest.proofs.Passed.{planned, filled}
 use Rattle.manifest.proofs.Keys.{take_ordered}
 use Rattle.manifest.proofs.accept.Goals as goal
 
@@ -79,3 +79,8 @@ returns-clause-scratch_after c =
     let t : tiled c.args.m.now ≡ false = rw (c.tiles.ensures, k.ensures.bytes) at c.if-tiles.false in
     rw (eq-eqb (plan_number c.args.m.now c.args.expected (length c.args.scratch.now)) 0 (sym k.ensures.told), t)
     (c.clear.ensures ∙ ap (λ n. replicate n 0) c.order.auto.scratch)
+
+pub returns-then-tiles-clause-filled : goal.returns-then-tiles-clause-filled
+returns-then-tiles-clause-filled c =
+    let k = c.in_ok-manifest in
+    rw (k.ensures.bytes, returns-then-tiles-clause-scratch_after c) (filled c.args.m.now c.args.expected c.args.scratch.now (sym (returns-then-tiles-clause-told c)))

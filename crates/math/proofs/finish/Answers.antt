@@ -5,9 +5,6 @@ pub returns-in-SquaredL2 : goal.returns-in-SquaredL2
 unfolding finished
 returns-in-SquaredL2 c = rw c.in-SquaredL2.is
 
-pub returns-in-Cosine : goal.returns-in-Cosine
-returns-in-Cosine c = rw (c.in-Cosine.is, ← c.sqrt.ensures) c.cosine.ensures
-
 pub returns-in-InnerProduct : goal.returns-in-InnerProduct
 unfolding finished
 returns-in-InnerProduct c = rw c.in-InnerProduct.is

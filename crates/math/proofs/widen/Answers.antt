@@ -1,5 +1,4 @@
-use Rattle.std.proofs.Common.{◌≡◌, length, set, ap, ◌∙◌, arith}
-use lib.Seq.{take-length}
+use Rattle.std.proofs.Common.{set, ap, ◌∙◌, arith}
 use lib.Ieee.{nan}
 use Rattle.le.proofs.Pastes.{copy_turn}
 use Rattle.math.proofs.widen.Goals as goal
@@ -10,10 +9,3 @@ loop-i-preserved c =
     let a = c.args in
     let x = c.f32_to_f64_with_nan.result in
     ap (λ o. set o L.i x) L.invariant ∙ copy_turn a.v.now a.out.now L.i nan c.loop-i-test.true (omega arith) c.f32_to_f64_with_nan.ensures
-
-pub returns : goal.returns
-returns c =
-    let L = c.loop-i in
-    let v = c.args.v.now in
-    let e : L.i ≡ length v = omega arith in
-    L.invariant ∙ rw (e, take-length v)

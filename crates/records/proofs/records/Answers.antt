@@ -1,5 +1,5 @@
-use Rattle.std.proofs.Common.{◌≡◌, ◌<◌, ◌≤◌, length, sym, ◌∙◌, arith}
-use Rattle.records.proofs.Lists.{upto-none, upto_next, counts, ends}
+use Rattle.std.proofs.Common.{◌≡◌, ◌<◌, length, sym, ◌∙◌, arith}
+use Rattle.records.proofs.Lists.{upto-none, upto_next, fits, handed}
 use Rattle.records.proofs.records.Goals as goal
 
 pub loop-i-init : goal.loop-i-init
@@ -9,14 +9,13 @@ pub loop-i-preserved : goal.loop-i-preserved
 loop-i-preserved c =
     let a = c.args in
     let i = c.loop-i.i in
-    let plan = c.planned-plan.result in
-    let room : plan.count ≤ length a.out.now = rw c.planned-plan.ensures (counts a.count (length a.ids.now) (length a.distances.now) (length a.rows.now) (length a.out.now)).3 in
+    let room = fits a.ids.now a.distances.now a.rows.now a.out.now a.count (rw c.room_holds.ensures at c.if-not-room_holds.false) in
     let here : i < length a.out.now = omega (arith, room, c.loop-i-test.true) in
     rw (c.loop-i.invariant, c.record_at.ensures) (upto_next a.ids.now a.distances.now a.rows.now a.out.now i here)
 
 pub returns : goal.returns
 returns c =
     let a = c.args in
-    let e = ends a.ids.now a.distances.now a.rows.now a.out.now a.count c.planned-plan.result c.planned-plan.ensures in
-    let all : c.loop-i.i ≡ c.planned-plan.result.count = omega (arith, c.loop-i-test.false) in
+    let e = handed a.ids.now a.distances.now a.rows.now a.out.now a.count (rw c.room_holds.ensures at c.if-not-room_holds.false) in
+    let all : c.loop-i.i ≡ a.count = omega (arith, c.loop-i-test.false) in
     (e.0, c.loop-i.invariant ∙ rw all e.1)

@@ -1,11 +1,10 @@
-use native.Mathlib.Omega.{arith}
 use mathlib.Core.Path.{sym, ap, ◌∙◌}
-use lib.ListN.{length, length-take, replicate}
+use lib.ListN.{length, replicate}
 use borrow.Author.Tests.{ne_eqb}
 use Rattle.std.proofs.lemmas.Result.{err_from_is_err_and}
 use Rattle.config.proofs.Numbers.{some_number}
 use Rattle.manifest.specs.Check.{manifest_number}
-use Rattle.manifest.proofs.Passed.{accepted, cleared, left, held_rows}
+use Rattle.manifest.proofs.Passed.{cleared, left}
 use Rattle.quantization.specs.Encoder.{base_levels, midpoints}
 use Rattle.resident.specs.Build.{resident_answer}
 use Rattle.resident.proofs.Answers.{slices_stay, refused-first, refused-next}
@@ -30,25 +29,10 @@ returns-in_err-m c =
       k.2,
     )
 
-pub slice_bounds-accepted-end-2 : goal.slice_bounds-accepted-end-2
-slice_bounds-accepted-end-2 c =
-    let k = c.in_ok-m in
-    let p = (accepted c.args.manifest.now c.args.expected_crc (length c.args.scratch.now) (sym k.ensures.told)).0 in
-    let r = rw k.ensures.bytes at k.m.laid_out.rows in
-    let e = c.accept.auto.scratch in
-    simp length-take (omega (arith, e, p.roomy, r))
-
 pub invariant_of-accepted : goal.invariant_of-accepted
 invariant_of-accepted c =
-    let a = c.args in
     let k = c.in_ok-m in
-    let n = sym k.ensures.told in
-    let p = (accepted a.manifest.now a.expected_crc (length a.scratch.now) n).0 in
-    record {
-      head = rw k.ensures.bytes p.head;
-      rows = rw k.ensures.bytes p.rows;
-      order = rw (c.accept.ensures.scratch_after, k.m.laid_out.rows, k.ensures.bytes) (held_rows a.manifest.now a.expected_crc a.scratch.now n).0;
-    }
+    let f = k.ensures.filled in record { head = f.head; rows = f.rows; order = rw k.m.laid_out.rows f.order }
 
 pub returns : goal.returns
 returns c =

@@ -1,9 +1,8 @@
 use mir.Syntax.{w64}
-use borrow.Author.Rules.{rules}
-use Rattle.codes.proofs.Numbers.{wide_fits, widened}
+use Rattle.codes.proofs.Numbers.{widened}
 use Rattle.row.specs.Distance.{distance_of}
 use Rattle.row.specs.Over.{is_over}
-use Rattle.row.proofs.Distances.{held, small_32}
+use Rattle.row.proofs.Distances.{held}
 use Rattle.row.proofs.is_over.Goals as goal
 
 pub returns-in-SquaredL2 : goal.returns-in-SquaredL2
@@ -20,12 +19,3 @@ pub returns-in-InnerProduct : goal.returns-in-InnerProduct
 unfolding distance_of is_over
 returns-in-InnerProduct c =
     rw c.in-InnerProduct.is (rw (rw (widened w64 tt c.ranges.dot) at c.inner_product.ensures) at c.is_over-in-InnerProduct.ensures)
-
-pub overflow_cast-d : goal.overflow_cast-d
-overflow_cast-d c = wide_fits w64 tt c.ranges.dot
-
-pub squared_l2-requires : goal.squared_l2-requires
-squared_l2-requires c = (search rules, search rules, rw (widened w64 tt c.ranges.dot) (small_32 c.args.dot c.ranges.dot))
-
-pub inner_product-requires : goal.inner_product-requires
-inner_product-requires c = rw (widened w64 tt c.ranges.dot) (small_32 c.args.dot c.ranges.dot)

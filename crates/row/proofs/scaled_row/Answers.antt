@@ -1,10 +1,8 @@
 use native.Mathlib.Omega.{arith}
 use mathlib.Core.Path.{sym, ap, ◌∙◌}
-use Prim.Native.Nat.{◌<◌}
 use mir.Syntax.{w32}
 use mir.Facts.{to_z-of_z}
 use Rattle.row.specs.Answer.{measured, answer}
-use Rattle.row.proofs.Views.{norm-small}
 use Rattle.row.proofs.scaled_row.Goals as goal
 
 pub returns-then-sums_hold : goal.returns-then-sums_hold
@@ -17,10 +15,3 @@ returns-then-sums_hold c =
 pub returns : goal.returns
 unfolding answer
 returns c = rw (sym c.sums_hold.ensures ∙ c.if-sums_hold.false) c.refused.ensures
-
-pub approximate_distance-requires : goal.approximate_distance-requires
-approximate_distance-requires c =
-    let a = c.args in
-    let s = a.sums in
-    let w : s.check.squares < 4294967296 = omega arith in
-    norm-small a.metric a.row.norm s.check.squares s.check.whole w (sym c.sums_hold.ensures ∙ c.if-sums_hold.true)

@@ -1,12 +1,11 @@
-use native.Mathlib.Omega.{arith}
 use mathlib.Core.Path.{sym, ap, ◌∙◌}
-use lib.ListN.{length, length-take, replicate}
+use lib.ListN.{length, replicate}
 use borrow.Author.Tests.{eq-eqb, ne_eqb}
 use Rattle.std.proofs.lemmas.Result.{err_from_is_err_and}
 use Rattle.config.proofs.Numbers.{some_number}
 use Rattle.config.specs.Told.{number_of}
 use Rattle.manifest.specs.Check.{manifest_number, checked_by}
-use Rattle.manifest.proofs.Passed.{accepted, cleared, left, held_rows}
+use Rattle.manifest.proofs.Passed.{cleared, left}
 use Rattle.segment.specs.Check.{library_refusal}
 use Rattle.segment.proofs.check.Goals as goal
 
@@ -21,32 +20,10 @@ returns-in_err-m c =
     let q = ne_eqb (manifest_number m c.args.expected_crc (length t)) 0 n in
     (rw (p.1, p.2, e, q, q), c.accept.ensures.scratch_after ∙ left m c.args.expected_crc t n)
 
-pub slice_bounds-accepted-end : goal.slice_bounds-accepted-end
-slice_bounds-accepted-end c =
-    let k = c.in_ok-m in
-    let p = (accepted c.args.manifest.now c.args.expected_crc (length c.args.scratch.now) (sym k.ensures.told)).0 in
-    rw (c.accept.auto.scratch, k.m.laid_out.rows, k.ensures.bytes) p.roomy
-
-pub slice_bounds-accepted-end-2 : goal.slice_bounds-accepted-end-2
-slice_bounds-accepted-end-2 c =
-    let k = c.in_ok-m in
-    let p = (accepted c.args.manifest.now c.args.expected_crc (length c.args.scratch.now) (sym k.ensures.told)).0 in
-    let r = rw k.ensures.bytes at k.m.laid_out.rows in
-    let e = c.accept.auto.scratch in
-    simp length-take (omega (arith, e, p.roomy, r))
-
 pub invariant_of-accepted : goal.invariant_of-accepted
 invariant_of-accepted c =
     let k = c.in_ok-m in
-    let m = c.args.manifest.now in
-    let t = c.args.scratch.now in
-    let n = sym k.ensures.told in
-    let p = (accepted m c.args.expected_crc (length t) n).0 in
-    record {
-      head = rw k.ensures.bytes p.head;
-      rows = rw k.ensures.bytes p.rows;
-      order = rw (c.accept.ensures.scratch_after, k.m.laid_out.rows, k.ensures.bytes) (held_rows m c.args.expected_crc t n).0;
-    }
+    let f = k.ensures.filled in record { head = f.head; rows = f.rows; order = rw k.m.laid_out.rows f.order }
 
 pub returns-in_err-checked : goal.returns-in_err-checked
 unfolding checked_by library_refusal

@@ -1,0 +1,2 @@
+-- The tests of ids and head.
+pub mod Opens

@@ -1,4 +1,0 @@
-use Rattle.math.proofs.norm_step.Goals as goal
-
-pub returns-then-is_cosine : goal.returns-then-is_cosine
-returns-then-is_cosine c = rw (← c.is_cosine.ensures, c.if-is_cosine.true)

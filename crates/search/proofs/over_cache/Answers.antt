@@ -1,4 +1,0 @@
-use Rattle.search.proofs.over_cache.Goals as goal
-
-pub returns : goal.returns
-returns c = c.over.ensures
