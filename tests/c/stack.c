@@ -1,5 +1,5 @@
 /* stack: how much stack each call takes beyond a thread that makes none, at most PV_STACK_BYTES: of 4,096 dimensions, of many rows that lie in
- * any order, of a million ids in three orders, and of ids that the sort parts as badly as it can. Not for valgrind, which hides the stack of a thread that has ended. */
+ * any order, and of a million ids in three orders and such as the sort parts as badly as it can. Not for valgrind, which hides the stack of a thread that has ended. */
 #define _POSIX_C_SOURCE 200809L
 #include "calls.h"
 
@@ -60,29 +60,78 @@ static void measure_all(const call *c, int from, int to)
     }
 }
 
-/* Ids that make a sort by parting go as deep as it can: parted in turn at the element in the middle and at the middle of the range, each parting
- * keeps all but one of them. They are found by sorting ids that are settled only when the sort looks at them (McIlroy's way). */
-static void deep_ids(uint64_t *ids, size_t count)
+/* Ids that std's sort_unstable, which the archive sorts them by, parts as badly as it can: each parting keeps nearly all before its pivot, until
+ * after 2 log2 of their count a heap sort takes over. They are found by sorting ids that are settled only when the sort compares them (McIlroy's
+ * way); what follows is that sort, without the heap and the networks. An id that is not settled is less than any other; settled ones fall. */
+#define DEEP 1000000
+
+static uint64_t *found;
+static uint64_t settled;
+static uint32_t *places, candidate;
+
+static bool less(uint32_t x, uint32_t y)
 {
-    static size_t a[1000];
-    static bool settled[1000];
-    uint64_t high = UINT64_MAX;
-    for (size_t i = 0; i < count; i++) a[i] = i, ids[i] = 0, settled[i] = false;
-    bool sample = true;
-    for (size_t n = count; n > 16 && high > 0; sample = !sample) {
-        uint64_t p = high / 2;
-        if (sample) {
-            if (!settled[a[n / 2]]) settled[a[n / 2]] = true, ids[a[n / 2]] = high - 1;
-            if (ids[a[n / 2]] < high) p = ids[a[n / 2]];
-        }
-        size_t m = 0;
-        for (size_t i = 0; i < n; i++) {
-            size_t x = a[i];
-            a[i] = a[m], a[m] = x;
-            m += ids[x] <= p;
-        }
-        n = m, high = p;
+    if (found[x] == 0 && found[y] == 0) found[x == candidate ? x : y] = UINT32_MAX - settled++;
+    if (found[x] == 0) candidate = x;
+    if (found[y] == 0) candidate = y;
+    return found[x] < found[y];
+}
+
+static size_t median(size_t a, size_t b, size_t c, size_t apart)
+{
+    if (apart >= 8) {
+        apart /= 8;
+        a = median(a, a + apart * 4, a + apart * 7, apart);
+        b = median(b, b + apart * 4, b + apart * 7, apart);
+        c = median(c, c + apart * 4, c + apart * 7, apart);
     }
+    bool below = less(places[a], places[b]);
+    if (below != less(places[a], places[c])) return a;
+    return less(places[b], places[c]) == below ? b : c;
+}
+
+static size_t part(size_t low, size_t high, size_t at, bool or_equal)
+{
+    uint32_t pivot = places[at];
+    places[at] = places[low], places[low] = pivot;
+    size_t i = low + 1;
+#define GOES(x) (or_equal ? !less(pivot, (x)) : less((x), pivot))
+    while (i < high && GOES(places[i])) i++;
+    if (i + 1 < high) {
+        uint32_t held = places[i + 1];
+        size_t hole = i + 1;
+        for (; hole < high - 1; hole++) {
+            bool goes = GOES(places[hole + 1]);
+            places[hole] = places[i], places[i] = places[hole + 1], i += goes;
+        }
+        bool goes = GOES(held);
+        places[high - 1] = places[i], places[i] = held, i += goes;
+    }
+    places[low] = places[i - 1], places[i - 1] = pivot;
+    return i - 1;
+}
+
+static void deep_part(size_t low, size_t high, unsigned depth)
+{
+    while (high - low > 16 && depth-- > 0) {
+        size_t apart = (high - low) / 8, at = median(low, low + apart * 4, low + apart * 7, apart);
+        bool or_equal = low > 0 && !less(places[low - 1], places[at]);
+        size_t mid = part(low, high, at, or_equal);
+        if (!or_equal) deep_part(low, mid, depth);
+        low = mid + 1;
+    }
+}
+
+static void deep_ids(uint64_t *ids)
+{
+    found = ids, places = malloc(DEEP * sizeof *places);
+    if (places == NULL) exit(2);
+    for (uint32_t i = 0; i < DEEP; i++) places[i] = i, ids[i] = 0;
+    /* neither a rising nor a falling run from the first on, which the sort looks for */
+    ids[0] = UINT32_MAX - 1, ids[1] = UINT32_MAX - 2, ids[2] = UINT32_MAX, settled = 3;
+    deep_part(0, DEEP, 2 * 19);
+    for (uint32_t i = 0; i < DEEP; i++) if (ids[i] == 0) ids[i] = i + 1;
+    free(places);
 }
 
 int main(void)
@@ -105,7 +154,7 @@ int main(void)
             uint64_t *ids = (uint64_t *)(void *)c.wanted.at, seed = 1;
             for (int order = 0; order < 4; order++) {
                 for (size_t i = 0; i < 1000000; i++) ids[i] = order == 0 ? i : order == 1 ? 1000000 - i : chance(&seed);
-                if (order == 3) deep_ids(ids, 1000), c.wanted.count = 8000, c.id_work = 1000;
+                if (order == 3) deep_ids(ids);
                 for (int f = CACHED_IDS; f < CALLS; f += 2) measure_all(&c, f, f + 1);
             }
             drop(&c.wanted), c.wanted = kept;

@@ -97,28 +97,6 @@ pub struct Location<'a> {
 }
 
 impl<'a> Location<'a> {
-    // Sizing's 10.
-    fn holds(self) -> bool
-        ensures { result ≡ place_ok (length self.entry.platform.now) (length self.entry.root.now) }
-    {
-        (self.platform.len() <= MAX_PLATFORM) & (self.root.len() <= MAX_ROOT)
-    }
-
-    // Sizing's 10 and 7, of rows of some length.
-    #[tactic(auto, unfolding(crate::specs::Sizing::bounds_number))]
-    fn check_bounds(self, options: Options, row: usize) -> Result<(), Number>
-        ensures { numbered result ≡ bounds_number (length self.entry.platform.now) (length self.entry.root.now) options.max_cache_bytes options.buffer_bytes row }
-    {
-        if !self.holds() {
-            return Err(Number::Names);
-        }
-        if !options.validate(row) {
-            return Err(Number::Options);
-        }
-        Ok(())
-    }
-
-    // Sizing's tests, in their order.
     pub fn check_sizing(
         self,
         options: Options,
@@ -129,11 +107,54 @@ impl<'a> Location<'a> {
         requires { (66 ≤ manifest) × (manifest ≤ 67108864) × (rows ≤ 1000000) × (dimensions ≤ 4096) }
         ensures { numbered result ≡ sizing_number (length self.entry.platform.now) (length self.entry.root.now) options.max_cache_bytes options.buffer_bytes manifest rows dimensions }
     {
-        self.check_bounds(options, row_length(dimensions))?;
-        let identity = identity_length(self.platform.len(), self.root.len(), manifest);
-        let size = cache_size(identity, 0, rows, dimensions);
-        check_limits(rows, dimensions, size, options.max_cache_bytes)
+        check_sizing_by_lengths(
+            self.platform.len(),
+            self.root.len(),
+            options,
+            manifest,
+            rows,
+            dimensions,
+        )
     }
+}
+
+// Sizing's 10.
+fn place_holds(platform: usize, root: usize) -> bool
+    ensures { result ≡ place_ok platform root }
+{
+    (platform <= MAX_PLATFORM) & (root <= MAX_ROOT)
+}
+
+// Sizing's 10 and 7, of rows of some length.
+#[tactic(auto, unfolding(crate::specs::Sizing::bounds_number))]
+fn check_bounds(platform: usize, root: usize, options: Options, row: usize) -> Result<(), Number>
+    ensures { numbered result ≡ bounds_number platform root options.max_cache_bytes options.buffer_bytes row }
+{
+    if !place_holds(platform, root) {
+        return Err(Number::Names);
+    }
+    if !options.validate(row) {
+        return Err(Number::Options);
+    }
+    Ok(())
+}
+
+// Sizing's tests, in their order, by the lengths of platform, root and manifest.
+pub fn check_sizing_by_lengths(
+    platform: usize,
+    root: usize,
+    options: Options,
+    manifest: usize,
+    rows: usize,
+    dimensions: usize,
+) -> Result<(), Number>
+    requires { (66 ≤ manifest) × (manifest ≤ 67108864) × (rows ≤ 1000000) × (dimensions ≤ 4096) }
+    ensures { numbered result ≡ sizing_number platform root options.max_cache_bytes options.buffer_bytes manifest rows dimensions }
+{
+    check_bounds(platform, root, options, row_length(dimensions))?;
+    let identity = identity_length(platform, root, manifest);
+    let size = cache_size(identity, 0, rows, dimensions);
+    check_limits(rows, dimensions, size, options.max_cache_bytes)
 }
 
 // Sizing's 8 and 9, of a cache of some size. The limit counts 8 bytes beside the cache, which were the Rust's LEASE
@@ -154,12 +175,14 @@ fn check_limits(rows: usize, dimensions: usize, size: usize, limit: usize) -> Re
 
 // ---- The head.
 
+// By a loop: `copy_from_slice` is `memmove`, which the C library would need from outside.
 pub fn put_bytes(cache: &mut [u8], at: usize, s: &[u8])
     requires { at + length s.now ≤ length cache.old }
     ensures { cache.new ≡ paste cache.old at s.now }
 {
-    let end = at + s.len();
-    cache[at..end].copy_from_slice(s);
+    for i in 0..s.len() {
+        cache[at + i] = s[i];
+    }
 }
 
 // After a u32 length.

@@ -20,7 +20,7 @@ use Rattle.cache_format.specs.Sizing.{bounds_number, limits_number, sizing_numbe
 use Rattle.math.specs.Sums.{fold2}
 use Rattle.math.specs.Distance.{inverse, finished, original}
 use Rattle.row.specs.Distance.{squared_l2, inner_product, cosine_by, distance_of, approximate}
-use Rattle.row.specs.Answer.{measured, answer, row_answer}
+use Rattle.row.specs.Answer.{measured, answer, row_answer, refusal_of}
 use Rattle.row.specs.declared.RowAnswer.TheVariants.{Refused}
 use Rattle.cases.specs.Cases.{Cases, row, large, encoded}
 
@@ -68,6 +68,7 @@ cases = record {
   f_minus = refl;
   g_plus = λ cs q. refl;
   g_refused = over;
+  g_number = λ place n cs h. ap refusal_of (over place n cs h);
   h-identity = refl;
   h-cache = refl;
   h-passes = refl;

@@ -4,6 +4,7 @@ use Rattle.std.specs.Float.{fin, binary64}
 use Rattle.std.specs.Float.Ieee.{of_bits}
 use Rattle.float.specs.Values.{plus_zero, one, two}
 use Rattle.config.specs.declared.Number.TheVariants.{Approximate}
+use Rattle.config.specs.Refusal.{refused}
 use Rattle.config.specs.declared.Metric.TheVariants.{SquaredL2, Cosine, InnerProduct}
 use Rattle.quantization.specs.View.{View, valid_row}
 use Rattle.quantization.specs.Encoder.{base_levels, encode, code_of, midpoints}
@@ -11,7 +12,7 @@ use Rattle.cache_format.specs.Cache.{identity_length, cache_size}
 use Rattle.cache_format.specs.Sizing.{sizing_number}
 use Rattle.math.specs.Distance.{original}
 use Rattle.row.specs.Distance.{approximate}
-use Rattle.row.specs.Answer.{row_answer}
+use Rattle.row.specs.Answer.{row_answer, refusal_of}
 use Rattle.row.specs.declared.RowAnswer.TheVariants.{Refused}
 
 -- the whole number n, and n halves
@@ -54,6 +55,8 @@ pub record Cases : Type 0 where
   pub g_plus : (cs : List ℤ) (q : View) → approximate SquaredL2 (row large 0 cs) q ≡ plus_zero
   pub g_refused : (place n : ℕ) (cs : List ℤ) → valid_row base_levels SquaredL2 (row large 1 cs) ≡ true
       → row_answer base_levels SquaredL2 true place (row large 1 cs) (encoded (replicate n plus_zero)) ≡ Refused (record { number = Approximate; place = place })
+  pub g_number : (place n : ℕ) (cs : List ℤ) → valid_row base_levels SquaredL2 (row large 1 cs) ≡ true
+      → refusal_of (row_answer base_levels SquaredL2 true place (row large 1 cs) (encoded (replicate n plus_zero))) ≡ refused 22 place
   -- "Platform `linux`, root `/s`, one-byte model, one segment, two rows of 3: identity 121, cache 179. Limit 187 passes, 186 gives 9;
   -- block 19 passes, 18 gives 7"; the manifest is 65 bytes, the model, 12 a segment and 20 a row long
   pub h-identity : identity_length 5 2 (65 + 1 + 12 * 1 + 20 * 2) ≡ 121

@@ -44,11 +44,11 @@ const TABLE: [u32; 256] = [
     0xb3667a2e, 0xc4614ab8, 0x5d681b02, 0x2a6f2b94, 0xb40bbe37, 0xc30c8ea1, 0x5a05df1b, 0x2d02ef8d,
 ];
 
-// The table for a byte at a time.
-#[derive(Drop)]
+// The table for a byte at a time. A caller may read its numbers, or make it of numbers of its own that are the entries.
+#[derive(Clone, Copy)]
 pub struct Table {
-    numbers: [u32; 256],
-    ghost is_entries: { numbers ≡ entries },
+    pub numbers: [u32; 256],
+    pub ghost is_entries: { numbers ≡ entries },
 }
 
 impl Table {
@@ -66,11 +66,11 @@ impl Table {
     }
 }
 
-// The eight tables for eight bytes at a time, one after the other.
-#[derive(Drop)]
+// The eight tables for eight bytes at a time, one after the other, likewise.
+#[derive(Clone, Copy)]
 pub struct Tables {
-    numbers: [u32; 2048],
-    ghost is_slots: { numbers ≡ slots },
+    pub numbers: [u32; 2048],
+    pub ghost is_slots: { numbers ≡ slots },
 }
 
 impl Tables {

@@ -116,18 +116,26 @@ pub fn front<'a>(
 // ---- The entries.
 
 // 21 at the first bad one.
-pub fn check_entries(m: Manifest<'_>) -> Result<Table<'_>, Refused>
-    requires { lengths_ok m.bytes.now ≡ true }
-    ensures told { told result ≡ entries_refusal m.entry.bytes.now none }
-    ensures same { IfOk result (λ t. (t.manifest.bytes.now ≡ m.entry.bytes.now) × (t.manifest.layout ≡ m.entry.layout)) }
+pub fn entries(m: Manifest<'_>) -> Result<(), Refused>
+    ensures { told result ≡ entries_refusal m.entry.bytes.now none }
 {
     match entries::bad_entry(m) {
         Some(bad) => Err(Refused {
             number: Number::Changed,
             place: bad as u64,
         }),
-        None => Ok(Table { manifest: m }),
+        None => Ok(()),
     }
+}
+
+// The same, and the table of rows, where the lengths of the segments hold.
+pub fn check_entries(m: Manifest<'_>) -> Result<Table<'_>, Refused>
+    requires { lengths_ok m.bytes.now ≡ true }
+    ensures told { told result ≡ entries_refusal m.entry.bytes.now none }
+    ensures same { IfOk result (λ t. (t.manifest.bytes.now ≡ m.entry.bytes.now) × (t.manifest.layout ≡ m.entry.layout)) }
+{
+    entries(m)?;
+    Ok(Table { manifest: m })
 }
 
 // ---- The query.

@@ -142,6 +142,7 @@ fn original_of<'a>(library: Library<'a>, coordinates: &'a [f64], inverse: f64) -
 
 // The candidates by original order, in two slices whose length is the limit.
 #[tactic(auto, using(config::proofs::Coordinates::valid_parts))]
+#[inline(always)]
 pub fn find<R: Rows>(
     rows: R,
     agree: bool,

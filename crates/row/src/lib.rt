@@ -155,7 +155,8 @@ pub fn read_row(cache: &[u8], at: usize) -> Option<Row>
     None
 }
 
-// The row test, of what was read of a row, and its codes.
+// The row test, of what was read of a row, and its codes. Inlined, so that the level count is known where the codes are tested.
+#[inline(always)]
 pub fn holds<C: Code>(levels: u32, metric: Metric, read: Option<Row>, codes: &[C]) -> bool
     requires { (length codes.now ≤ 4096) × Levels levels }
     ensures { (scale : _) (norm : _) → read ≡ read_of scale norm → result ≡ valid_row levels metric (view_of scale norm (C.codes_of codes.now)) }

@@ -102,6 +102,11 @@ pub trait Rows: Copy {
         requires { row < count self.now }
         ensures values { Self.Code.codes_of result.now ≡ (at self.now row).codes }
         ensures as_many { length result.now ≡ width self.now };
+
+    // The row test.
+    fn holds(&self, levels: u32, metric: Metric, row: usize) -> bool
+        requires { (row < count self.now) × (width self.now ≤ 4096) × Levels levels }
+        ensures { result ≡ valid_row levels metric (at self.now row) };
 }
 
 impl<'a> Rows for CachedRows<'a> {
@@ -120,6 +125,40 @@ impl<'a> Rows for CachedRows<'a> {
     fn codes(&self, row: usize) -> &[u8] {
         CachedRows::codes(self, row)
     }
+
+    fn holds(&self, levels: u32, metric: Metric, row: usize) -> bool {
+        row::holds(
+            levels,
+            metric,
+            CachedRows::read(self, row),
+            CachedRows::codes(self, row),
+        )
+    }
+}
+
+// A resident row's scale and norm.
+#[inline(always)]
+fn scale_and_norm(rows: &ResidentRows<'_>, row: usize) -> Row
+    requires { row < rows.now.rows }
+    ensures { let v = resident_at rows.now.dimensions rows.now.codes.now rows.now.scales.now rows.now.norms.now row in
+        (result.scale ≡ v.scale) × (result.norm ≡ v.norm) }
+{
+    Row {
+        scale: rows.scales[row],
+        norm: rows.norms[row],
+    }
+}
+
+// Its codes.
+#[inline(always)]
+fn resident_codes<'a>(rows: &ResidentRows<'a>, row: usize) -> &'a [i8]
+    requires { row < rows.now.rows }
+    ensures values { result.now ≡ (resident_at rows.now.dimensions rows.now.codes.now rows.now.scales.now rows.now.norms.now row).codes }
+    ensures as_many { length result.now ≡ rows.now.dimensions }
+{
+    let from = row * rows.dimensions;
+    let end = from + rows.dimensions;
+    &rows.codes[from..end]
 }
 
 impl<'a> Rows for ResidentRows<'a> {
@@ -133,10 +172,7 @@ impl<'a> Rows for ResidentRows<'a> {
 
     #[tactic(auto, unfolding(row::specs::Read::read_of))]
     fn read(&self, row: usize) -> Option<Row> {
-        let r = Row {
-            scale: self.scales[row],
-            norm: self.norms[row],
-        };
+        let r = scale_and_norm(self, row);
         if row::scale_holds(r.scale) {
             Some(r)
         } else {
@@ -145,9 +181,12 @@ impl<'a> Rows for ResidentRows<'a> {
     }
 
     fn codes(&self, row: usize) -> &[i8] {
-        let from = row * self.dimensions;
-        let end = from + self.dimensions;
-        &self.codes[from..end]
+        resident_codes(self, row)
+    }
+
+    fn holds(&self, levels: u32, metric: Metric, row: usize) -> bool {
+        let codes = codes::row_check(levels as u8, resident_codes(self, row));
+        row::valid(levels, metric, scale_and_norm(self, row), codes)
     }
 }
 
@@ -192,6 +231,7 @@ impl<'a> Against<'a> {
 
     // Whether a row is turned away: it is valid, with a finite distance whose key is over that of every row that is kept, so that it changes
     // nothing; by the number with the key that none may be over, under cosine by the limit `far`, without a root. Nearly all rows are.
+    #[inline(always)]
     fn turns_away(self, row: Option<Row>, sums: Sums, bound: f64, far: u32) -> bool
         ensures { (scale : _) (norm : _) → row ≡ read_of scale norm
             → TurnedAway self.entry.query.row.norm bound far (scale_test scale && sums_test self.entry.metric norm sums.check.squares sums.check.whole) (distance_of self.entry.metric scale norm self.entry.query.row.scale self.entry.query.row.norm sums.dot) result }
@@ -209,6 +249,7 @@ impl<'a> Against<'a> {
     }
 
     // Of eligible rows, from this one on and before `to`, the first that may not be turned away.
+    #[inline(always)]
     fn ahead<R: Rows>(self, rows: R, row: usize, to: usize, top: u64, far: u32) -> Option<Ahead>
         requires bounds { (row ≤ to) × (to ≤ R.count rows) × (R.width rows ≡ length self.codes.now) }
         requires limits { Limits self.metric self.query.row.norm top far }
@@ -236,7 +277,9 @@ impl<'a> Against<'a> {
         }
     }
 
-    // The row; where it is eligible, the first from it on that may not be turned away, or the last before `to`.
+    // The row; where it is eligible, the first from it on that may not be turned away, or the last before `to`. Inlined, as what it calls
+    // is: the query stays in registers, and the level count is known where the codes are tested.
+    #[inline(always)]
     fn next<R: Rows>(
         self,
         rows: R,
@@ -251,7 +294,7 @@ impl<'a> Against<'a> {
         ensures { NextIs self.entry.levels self.entry.metric (R.at rows) (view_of self.entry.query.row.scale self.entry.query.row.norm self.entry.codes.now) eligible row to top result }
     {
         if !eligible {
-            let valid = row::holds(self.levels, self.metric, rows.read(row), rows.codes(row));
+            let valid = rows.holds(self.levels, self.metric, row);
             return Next {
                 row,
                 answer: row::passed_over(valid, row as u64),
@@ -280,6 +323,8 @@ fn reach(wanted: Option<&[u64]>, row: usize, rows: usize) -> usize
     if wanted.is_none() { rows } else { row + 1 }
 }
 
+// Inlined, as `shortlist` and `kept::find` are, in which the level count is known.
+#[inline(always)]
 pub fn scan<R: Rows>(
     against: Against<'_>,
     rows: R,

@@ -58,6 +58,7 @@ fn behind(
     })
 }
 
+#[inline(always)]
 pub fn shortlist<R: Rows>(
     agree: bool,
     k: usize,

@@ -4,7 +4,10 @@
 ghost use Rattle.std.specs.Prelude.{◌≤◌, length};
 
 use crc32::{Table, Tables};
-use std::io::{BufWriter, Read, Result, Write};
+use std::io::{BufWriter, Result, Write};
+
+// The most that is read of the input.
+const INPUT_BYTES: usize = 131072;
 
 fn line<W: Write>(out: &mut W, c: u32) -> Result<()> {
     writeln!(out, "{c:08x}")
@@ -54,12 +57,16 @@ fn cases<W: Write>(out: &mut W, t: &Tables, one: &Table, input: &[u8]) -> Result
     Ok(())
 }
 
-fn main(rt: HostRuntime) -> Result<()> {
-    let mut input = Vec::new(rt.alloc());
-    rt.stdin().read_to_end(&mut input)?;
-    let mut out = BufWriter::new(rt.alloc(), rt.stdout())?;
+fn run<W: Write>(out: &mut W, input: &[u8]) -> Result<()> {
     let t = Tables::new();
     let one = Table::new();
-    cases(&mut out, &t, &one, &input)?;
+    cases(out, &t, &one, input)?;
     out.flush()
+}
+
+fn main(rt: HostRuntime) -> Result<()> {
+    let mut input = vec![in rt.alloc(); 0; INPUT_BYTES]?;
+    let n = replay::fill(&mut rt.stdin(), &mut input);
+    let mut out = BufWriter::new(rt.alloc(), rt.stdout())?;
+    replay::end(run(&mut out, &input[..n]))
 }

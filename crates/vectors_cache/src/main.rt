@@ -10,7 +10,7 @@ use config::Refused;
 use format::Head;
 use prepare::Info;
 use std::alloc::Global;
-use std::io::{BufRead, BufReader, BufWriter, Read, Result, Write};
+use std::io::{BufReader, BufWriter, Read, Result, Write};
 
 // The CRC-32 of s.
 fn print_sum<W: Write>(out: &mut W, s: &[u8]) -> Result<()> {
@@ -303,30 +303,43 @@ fn build<W: Write>(
 
 // ---- Reading.
 
-// A number of the case's head.
-fn number(head: &[u8; 72], at: usize) -> usize
+// The most that a case has of scratch, rows, names, and bytes and codes of each kind.
+const SCRATCH: usize = 4096;
+
+const ROWS: usize = 4096;
+
+const CODES: usize = 65536;
+
+const NAME_BYTES: usize = 100;
+
+const MANIFEST_BYTES: usize = 65536;
+
+const SEGMENT_BYTES: usize = 131072;
+
+const ROOT_BYTES: usize = 1048577;
+
+const CACHE_BYTES: usize = 65536;
+
+// And of room for a cache that is prepared.
+const ROOM: usize = 1114112;
+
+// A number of the case's head, or the most that it may be.
+fn number(head: &[u8; 72], at: usize, most: usize) -> usize
     requires { at ≤ 68 }
 {
-    le::u32_at(head, at) as usize
-}
-
-// So many bytes of the input.
-fn bytes<R: Read>(input: &mut R, alloc: Global, n: usize) -> Result<Vec<u8>> {
-    let mut bytes = vec![in alloc; 0; n]?;
-    input.read_exact(&mut bytes)?;
-    Ok(bytes)
+    most.min(le::u32_at(head, at) as usize)
 }
 
 fn read<R: Read>(input: &mut R, alloc: Global, head: &[u8; 72]) -> Result<Case> {
-    let name = bytes(input, alloc, number(head, 28))?;
-    let manifest = bytes(input, alloc, number(head, 32))?;
-    let segments = bytes(input, alloc, number(head, 36))?;
-    let platform = bytes(input, alloc, number(head, 40))?;
-    let mut root = bytes(input, alloc, number(head, 44))?;
-    let cache = bytes(input, alloc, number(head, 52))?;
+    let name = replay::bytes(input, alloc, number(head, 28, NAME_BYTES))?;
+    let manifest = replay::bytes(input, alloc, number(head, 32, MANIFEST_BYTES))?;
+    let segments = replay::bytes(input, alloc, number(head, 36, SEGMENT_BYTES))?;
+    let platform = replay::bytes(input, alloc, number(head, 40, NAME_BYTES))?;
+    let mut root = replay::bytes(input, alloc, number(head, 44, ROOT_BYTES))?;
+    let cache = replay::bytes(input, alloc, number(head, 52, CACHE_BYTES))?;
 
     // The root is what was read of it and then zeros.
-    root.resize(number(head, 48), 0)?;
+    root.resize(number(head, 48, ROOT_BYTES), 0)?;
     let options = Options {
         max_cache_bytes: le::u64_at(head, 0) as usize,
         buffer_bytes: le::u64_at(head, 8) as usize,
@@ -346,12 +359,12 @@ fn read<R: Read>(input: &mut R, alloc: Global, head: &[u8; 72]) -> Result<Case> 
 
 // Runs a case: lends as much to be written as its head says.
 fn replay<W: Write>(out: &mut W, alloc: Global, head: &[u8; 72], c: &Case) -> Result<()> {
-    let mut scratch = vec![in alloc; 0; number(head, 20)]?;
-    let mut opening_scratch = vec![in alloc; 0; number(head, 24)]?;
-    let mut room = vec![in alloc; 0; number(head, 56)]?;
-    let mut codes = vec![in alloc; i8::UNWRITTEN; number(head, 60)]?;
-    let mut scales = vec![in alloc; f64::UNWRITTEN; number(head, 64)]?;
-    let mut norms = vec![in alloc; i64::UNWRITTEN; number(head, 68)]?;
+    let mut scratch = vec![in alloc; 0; number(head, 20, SCRATCH)]?;
+    let mut opening_scratch = vec![in alloc; 0; number(head, 24, SCRATCH)]?;
+    let mut room = vec![in alloc; 0; number(head, 56, ROOM)]?;
+    let mut codes = vec![in alloc; i8::UNWRITTEN; number(head, 60, CODES)]?;
+    let mut scales = vec![in alloc; f64::UNWRITTEN; number(head, 64, ROWS)]?;
+    let mut norms = vec![in alloc; i64::UNWRITTEN; number(head, 68, ROWS)]?;
 
     out.write_all(&c.name)?;
     writeln!(out)?;
@@ -374,19 +387,24 @@ fn replay<W: Write>(out: &mut W, alloc: Global, head: &[u8; 72], c: &Case) -> Re
     )
 }
 
+fn run<R: Read, W: Write>(input: &mut R, out: &mut W, alloc: Global) -> Result<()> {
+    for place in 0..10000 {
+        let mut head = [0u8; 72];
+        if replay::fill(input, &mut head) < 72 {
+            break;
+        }
+        let c = read(input, alloc, &head)?;
+        write!(out, "{place} ")?;
+        replay(out, alloc, &head, &c)?;
+        // a case is answered before the next is waited for
+        out.flush()?;
+    }
+    Ok(())
+}
+
 fn main(rt: HostRuntime) -> Result<()> {
     let alloc = rt.alloc();
     let mut input = BufReader::new(alloc, rt.stdin())?;
     let mut out = BufWriter::new(alloc, rt.stdout())?;
-    for place in 0..10000 {
-        if input.fill_buf()?.is_empty() {
-            break;
-        }
-        let mut head = [0u8; 72];
-        input.read_exact(&mut head)?;
-        let c = read(&mut input, alloc, &head)?;
-        write!(out, "{place} ")?;
-        replay(&mut out, alloc, &head, &c)?;
-    }
-    out.flush()
+    replay::end(run(&mut input, &mut out, alloc))
 }

@@ -4,7 +4,10 @@
 #![tactic(auto)]
 
 use std::fmt;
-use std::io::{BufWriter, Read, Result, Write};
+use std::io::{BufWriter, Result, Write};
+
+// The most that is read of the input.
+const INPUT_BYTES: usize = 65536;
 
 // The pattern of a result.
 #[derive(Drop)]
@@ -46,12 +49,16 @@ fn line<W: Write>(out: &mut W, bits: u64) -> Result<()> {
     )
 }
 
-fn main(rt: HostRuntime) -> Result<()> {
-    let mut patterns = Vec::new(rt.alloc());
-    rt.stdin().read_to_end(&mut patterns)?;
-    let mut out = BufWriter::new(rt.alloc(), rt.stdout())?;
+fn run<W: Write>(out: &mut W, patterns: &[u8]) -> Result<()> {
     for bits in patterns.chunks_exact(8) {
-        line(&mut out, le::u64_at(bits, 0))?;
+        line(out, le::u64_at(bits, 0))?;
     }
     out.flush()
+}
+
+fn main(rt: HostRuntime) -> Result<()> {
+    let mut patterns = vec![in rt.alloc(); 0; INPUT_BYTES]?;
+    let n = replay::fill(&mut rt.stdin(), &mut patterns);
+    let mut out = BufWriter::new(rt.alloc(), rt.stdout())?;
+    replay::end(run(&mut out, &patterns[..n]))
 }

@@ -2,11 +2,13 @@
 // the lengths of name, manifest and segments (u32 each), then these three. make/cases.py says what is printed of each.
 #![tactic(auto)]
 
+ghost use Rattle.std.specs.Prelude.{◌≤◌};
+
 use config::Refused;
 use format::Head;
 use std::alloc::Global;
 use std::fmt;
-use std::io::{BufRead, BufReader, BufWriter, Read, Result, Write};
+use std::io::{BufReader, BufWriter, Read, Result, Write};
 
 // What is lent as scratch: 1, 2, 3 ..
 fn fill(s: &mut [u64]) {
@@ -75,22 +77,38 @@ fn print_answer<W: Write>(
     write!(out, "{} ", state(scratch))
 }
 
-// So many bytes of the input.
-fn bytes<R: Read>(input: &mut R, alloc: Global, n: u32) -> Result<Vec<u8>> {
-    let mut bytes = vec![in alloc; 0; n as usize]?;
-    input.read_exact(&mut bytes)?;
-    Ok(bytes)
+// The most that a case has of scratch, of a name, and of a manifest's or its segments' bytes.
+const SCRATCH: usize = 4096;
+
+const NAME_BYTES: usize = 100;
+
+const FILE_BYTES: usize = 65536;
+
+// A number of the case's head.
+fn number(head: &[u8; 20], at: usize) -> usize
+    requires { at ≤ 16 }
+{
+    le::u32_at(head, at) as usize
 }
 
-// Reads and runs a case.
-fn case<R: Read, W: Write>(input: &mut R, out: &mut W, alloc: Global, place: u32) -> Result<()> {
+// Reads and runs a case; whether there was one that fits.
+fn case<R: Read, W: Write>(input: &mut R, out: &mut W, alloc: Global, place: u32) -> Result<bool> {
     let mut head = [0u8; 20];
-    input.read_exact(&mut head)?;
+    if replay::fill(input, &mut head) < 20 {
+        return Ok(false);
+    }
     let expected_crc = le::u32_at(&head, 0);
-    let mut scratch = vec![in alloc; 0; le::u32_at(&head, 4) as usize]?;
-    let name = bytes(input, alloc, le::u32_at(&head, 8))?;
-    let manifest = bytes(input, alloc, le::u32_at(&head, 12))?;
-    let segments = bytes(input, alloc, le::u32_at(&head, 16))?;
+    let room = number(&head, 4);
+    let n = number(&head, 8);
+    let m = number(&head, 12);
+    let s = number(&head, 16);
+    if SCRATCH < room || NAME_BYTES < n || FILE_BYTES < m || FILE_BYTES < s {
+        return Ok(false);
+    }
+    let mut scratch = vec![in alloc; 0; room]?;
+    let name = replay::bytes(input, alloc, n)?;
+    let manifest = replay::bytes(input, alloc, m)?;
+    let segments = replay::bytes(input, alloc, s)?;
     write!(out, "{place} ")?;
     fill(&mut scratch);
     let r = manifest::check(&manifest, expected_crc, &mut scratch);
@@ -99,18 +117,24 @@ fn case<R: Read, W: Write>(input: &mut R, out: &mut W, alloc: Global, place: u32
     let r = segment::check(&manifest, expected_crc, &mut scratch, &segments);
     print_answer(out, r, &scratch)?;
     out.write_all(&name)?;
-    writeln!(out)
+    writeln!(out)?;
+    Ok(true)
+}
+
+fn run<R: Read, W: Write>(input: &mut R, out: &mut W, alloc: Global) -> Result<()> {
+    for place in 0..10000 {
+        if !case(input, out, alloc, place)? {
+            break;
+        }
+        // a case is answered before the next is waited for
+        out.flush()?;
+    }
+    Ok(())
 }
 
 fn main(rt: HostRuntime) -> Result<()> {
     let alloc = rt.alloc();
     let mut input = BufReader::new(alloc, rt.stdin())?;
     let mut out = BufWriter::new(alloc, rt.stdout())?;
-    for place in 0..10000 {
-        if input.fill_buf()?.is_empty() {
-            break;
-        }
-        case(&mut input, &mut out, alloc, place)?;
-    }
-    out.flush()
+    replay::end(run(&mut input, &mut out, alloc))
 }

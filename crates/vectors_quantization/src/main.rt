@@ -10,7 +10,7 @@ use config::Metric;
 use quantization::{Encoder, Row};
 use row::{Query, RowAnswer};
 use std::fmt;
-use std::io::{BufRead, BufReader, BufWriter, Read, Result, Write};
+use std::io::{BufReader, BufWriter, Read, Result, Write};
 use std::num::f32_from_bits_with_nan;
 
 // The bits of a distance, or `nan`.
@@ -174,35 +174,38 @@ fn case<W: Write>(
     distances(w, metric, encoder, query, record, &row, rest)
 }
 
-// Reads and runs a case.
-fn next<R: Read, W: Write>(r: &mut R, w: &mut W, encoder: &Encoder<'_>) -> Result<()> {
+// Reads and runs a case; whether there was one.
+fn next<R: Read, W: Write>(r: &mut R, w: &mut W, encoder: &Encoder<'_>) -> Result<bool> {
     let mut head = [0u8; 1];
     let mut query = [0u8; 172];
     let mut record = [0u8; 172];
     let mut rest = [0u8; 516];
-    r.read_exact(&mut head)?;
-    r.read_exact(&mut query)?;
-    r.read_exact(&mut record)?;
-    r.read_exact(&mut rest)?;
-    match Metric::try_from(head[0]) {
-        Ok(metric) => case(w, metric, encoder, &query, &record, &rest),
-        Err(_) => Ok(()),
+    replay::fill(r, &mut head);
+    replay::fill(r, &mut query);
+    replay::fill(r, &mut record);
+    if replay::fill(r, &mut rest) < 516 {
+        return Ok(false);
     }
+    if let Ok(metric) = Metric::try_from(head[0]) {
+        case(w, metric, encoder, &query, &record, &rest)?;
+    }
+    Ok(true)
 }
 
-fn run<R: BufRead, W: Write>(r: &mut R, w: &mut W, encoder: &Encoder<'_>) -> Result<()> {
+fn run<R: Read, W: Write>(r: &mut R, w: &mut W, encoder: &Encoder<'_>) -> Result<()> {
     for _ in 0..10000 {
-        if r.fill_buf()?.is_empty() {
+        if !next(r, w, encoder)? {
             break;
         }
-        next(r, w, encoder)?;
+        // a case is answered before the next is waited for
+        w.flush()?;
     }
-    w.flush()
+    Ok(())
 }
 
 fn main(rt: HostRuntime) -> Result<()> {
     let t = quantization::midpoints_table();
     let mut r = BufReader::new(rt.alloc(), rt.stdin())?;
     let mut w = BufWriter::new(rt.alloc(), rt.stdout())?;
-    run(&mut r, &mut w, &Encoder::new(&t, quantization::BASE_LEVELS))
+    replay::end(run(&mut r, &mut w, &Encoder::new(&t, quantization::BASE_LEVELS)))
 }

@@ -2,7 +2,7 @@
 // changes of what is lent, and calls. make/cases.py says how they are laid out and what is printed of each.
 #![tactic(auto)]
 
-ghost use Rattle.std.specs.Prelude.{◌≤◌};
+ghost use Rattle.std.specs.Prelude.{◌≡◌, ◌+◌, ◌≤◌, IfOk, vec_len};
 
 use cache_format::{Location, Options};
 use config::Refused;
@@ -11,7 +11,7 @@ use quantized_cache::CacheState;
 use resident::ResidentState;
 use search_spec::{Answers, Call, Place, Report, Work};
 use std::alloc::Global;
-use std::io::{BufRead, BufReader, BufWriter, Read, Result, Write};
+use std::io::{BufReader, BufWriter, Read, Result, Write};
 use std::num::f32_from_bits_with_nan;
 
 // What a check, an opening, a building or a call refuses; 0 at 0 is nothing.
@@ -22,21 +22,16 @@ fn print_refusal<W: Write, T>(out: &mut W, answer: &std::result::Result<T, Refus
     }
 }
 
-// So many bytes of the input.
-fn bytes<R: Read>(input: &mut R, alloc: Global, n: usize) -> Result<Vec<u8>> {
-    let mut bytes = vec![in alloc; 0; n]?;
-    input.read_exact(&mut bytes)?;
-    Ok(bytes)
-}
+// The most bytes of the name of a library or a call.
+const NAME_BYTES: usize = 100;
 
-// The name of a library or a call.
 fn print_name<R: Read, W: Write>(
     input: &mut R,
     out: &mut W,
     alloc: Global,
     n: usize,
 ) -> Result<()> {
-    let name = bytes(input, alloc, n)?;
+    let name = replay::bytes(input, alloc, n)?;
     out.write_all(&name)?;
     write!(out, ": ")
 }
@@ -61,6 +56,11 @@ const STARTS: u64 = 9223372036854775802;
 
 const LENGTHS: u32 = 4294967294;
 
+// The most elements of the slice of ids that are sorted, and of each other.
+const WORK_ROOM: usize = 1024;
+
+const ROOM: usize = 512;
+
 #[derive(Drop)]
 struct Written {
     keys: Vec<u64>,
@@ -76,14 +76,14 @@ struct Written {
 // What a command lends.
 fn lent(alloc: Global, head: &[u8; 112]) -> Result<Written> {
     Ok(Written {
-        keys: vec![in alloc; KEYS; number(head, 48)]?,
-        candidates: vec![in alloc; CANDIDATES; number(head, 52)]?,
-        work: vec![in alloc; WORK; number(head, 56)]?,
-        ids: vec![in alloc; IDS; number(head, 60)]?,
-        distances: vec![in alloc; DISTANCES; number(head, 64)]?,
-        rows: vec![in alloc; ROWS; number(head, 68)]?,
-        starts: vec![in alloc; STARTS; number(head, 72)]?,
-        lengths: vec![in alloc; LENGTHS; number(head, 76)]?,
+        keys: vec![in alloc; KEYS; number(head, 48, ROOM)]?,
+        candidates: vec![in alloc; CANDIDATES; number(head, 52, ROOM)]?,
+        work: vec![in alloc; WORK; number(head, 56, WORK_ROOM)]?,
+        ids: vec![in alloc; IDS; number(head, 60, ROOM)]?,
+        distances: vec![in alloc; DISTANCES; number(head, 64, ROOM)]?,
+        rows: vec![in alloc; ROWS; number(head, 68, ROOM)]?,
+        starts: vec![in alloc; STARTS; number(head, 72, ROOM)]?,
+        lengths: vec![in alloc; LENGTHS; number(head, 76, ROOM)]?,
     })
 }
 
@@ -167,7 +167,9 @@ fn print_place<W: Write>(out: &mut W, p: Place) -> Result<()> {
 }
 
 // A place as 36 bytes.
-fn put_place(bytes: &mut Vec<u8>, p: Place) -> Result<()> {
+fn put_place(bytes: &mut Vec<u8>, p: Place) -> Result<()>
+    ensures { IfOk result (λ _. vec_len bytes.new ≡ vec_len bytes.old + 36) }
+{
     bytes.extend_from_slice(&p.id.to_le_bytes())?;
     bytes.extend_from_slice(&bits(p.distance).to_le_bytes())?;
     bytes.extend_from_slice(&p.row.to_le_bytes())?;
@@ -176,9 +178,23 @@ fn put_place(bytes: &mut Vec<u8>, p: Place) -> Result<()> {
     Ok(())
 }
 
-// ---- A library: what is lent of it to be read. Each slice has some zeros behind what was read or built, which a call may lend too.
+// ---- A library: what is lent of it to be read. Each slice has zeros behind what was read or built, which a call may lend too.
 
-const SPARE: usize = 16;
+// The lengths of these slices, and so the most that is read or built.
+const MANIFEST_BYTES: usize = 32768;
+
+const SEGMENT_BYTES: usize = 49152;
+
+const CACHE_BYTES: usize = 32768;
+
+const CODES: usize = 12288;
+
+const PARAMETERS: usize = 512;
+
+// The most bytes of platform and root.
+const PLATFORM_BYTES: usize = 64;
+
+const ROOT_BYTES: usize = 256;
 
 #[derive(Drop)]
 struct Library {
@@ -255,11 +271,24 @@ fn run<K: Kept, W: Write>(
     Ok(report.count)
 }
 
-// A number of a command.
-fn number(head: &[u8; 112], at: usize) -> usize
+// The most numbers of a query, and ids that are read, or lent without.
+const QUERY: usize = 256;
+
+const WANTED: usize = 1024;
+
+const MANY: usize = 1000001;
+
+// A number of a command, as it is, or at most so much.
+fn length_at(head: &[u8; 112], at: usize) -> usize
     requires { at ≤ 108 }
 {
     le::u32_at(head, at) as usize
+}
+
+fn number(head: &[u8; 112], at: usize, most: usize) -> usize
+    requires { at ≤ 108 }
+{
+    length_at(head, at).min(most)
 }
 
 // As many of s as a command says, or all.
@@ -296,8 +325,8 @@ fn call_of<'a>(
     head: &[u8; 112],
 ) -> Call<'a> {
     Call {
-        manifest: part(&library.manifest, number(head, 24)),
-        segments: part(&library.segments, number(head, 28)),
+        manifest: part(&library.manifest, number(head, 24, MANIFEST_BYTES)),
+        segments: part(&library.segments, number(head, 28, SEGMENT_BYTES)),
         wanted,
         query,
         k: le::u64_at(head, 8) as usize,
@@ -313,18 +342,16 @@ fn replay<R: Read, W: Write>(
     library: &Library,
     head: &[u8; 112],
 ) -> Result<()> {
-    print_name(input, out, alloc, number(head, 92))?;
-    let query = load_query(
-        alloc,
-        &bytes(input, alloc, number(head, 80).saturating_mul(4))?,
-    )?;
-    let n = number(head, 84);
-    let wanted = if number(head, 0) == 3 {
-        vec![in alloc; 7; n]?
+    print_name(input, out, alloc, number(head, 92, NAME_BYTES))?;
+    let n = number(head, 80, QUERY);
+    let query = load_query(alloc, &replay::bytes(input, alloc, n.saturating_mul(4))?)?;
+    let wanted = if le::u32_at(head, 0) == 3 {
+        vec![in alloc; 7; number(head, 84, MANY)]?
     } else {
-        load_ids(alloc, &bytes(input, alloc, n.saturating_mul(8))?)?
+        let n = number(head, 84, WANTED);
+        load_ids(alloc, &replay::bytes(input, alloc, n.saturating_mul(8))?)?
     };
-    let kind = number(head, 4);
+    let kind = le::u32_at(head, 4);
     let wanted = if kind & 1 == 0 {
         None
     } else {
@@ -334,29 +361,29 @@ fn replay<R: Read, W: Write>(
     let places = if kind & 4 == 0 {
         None
     } else {
-        Some(number(head, 88))
+        Some(number(head, 88, ROOM))
     };
     let mut written = lent(alloc, head)?;
     let count = if kind & 2 == 0 {
         let cached = Cached {
             state: CacheState {
                 head: library.opened.head,
-                cache: other_than(library.opened.cache, number(head, 96)),
+                cache: other_than(library.opened.cache, length_at(head, 96)),
             },
-            cache: part(&library.cache, number(head, 32)),
+            cache: part(&library.cache, number(head, 32, CACHE_BYTES)),
         };
         run(out, cached, &call, places, &mut written)?
     } else {
         let resident = Resident {
             state: ResidentState {
                 head: library.built.head,
-                codes: other_than(library.built.codes, number(head, 100)),
-                scales: other_than(library.built.scales, number(head, 104)),
-                norms: other_than(library.built.norms, number(head, 108)),
+                codes: other_than(library.built.codes, length_at(head, 100)),
+                scales: other_than(library.built.scales, length_at(head, 104)),
+                norms: other_than(library.built.norms, length_at(head, 108)),
             },
-            codes: part(&library.codes, number(head, 36)),
-            scales: part(&library.scales, number(head, 40)),
-            norms: part(&library.norms, number(head, 44)),
+            codes: part(&library.codes, number(head, 36, CODES)),
+            scales: part(&library.scales, number(head, 40, PARAMETERS)),
+            norms: part(&library.norms, number(head, 44, PARAMETERS)),
         };
         run(out, resident, &call, places, &mut written)?
     };
@@ -365,10 +392,10 @@ fn replay<R: Read, W: Write>(
 
 // ---- A change of what is lent: some bytes, or an element.
 
-fn change_bytes<R: Read>(input: &mut R, s: &mut [u8], at: usize, n: usize) -> Result<()> {
+fn change_bytes<R: Read>(input: &mut R, s: &mut [u8], at: usize, n: usize) {
     let start = at.min(s.len());
     let stop = start + n.min(s.len() - start);
-    input.read_exact(&mut s[start..stop])
+    replay::fill(input, &mut s[start..stop]);
 }
 
 fn change_element<T: Copy>(s: &mut [T], at: usize, x: T) {
@@ -377,19 +404,18 @@ fn change_element<T: Copy>(s: &mut [T], at: usize, x: T) {
     }
 }
 
-fn change<R: Read>(input: &mut R, library: &mut Library, head: &[u8; 112]) -> Result<()> {
-    let at = number(head, 24);
-    let n = number(head, 28);
+fn change<R: Read>(input: &mut R, library: &mut Library, head: &[u8; 112]) {
+    let at = length_at(head, 24);
+    let n = length_at(head, 28);
     let bits = le::u64_at(head, 8);
-    match number(head, 4) {
-        0 => change_bytes(input, &mut library.manifest, at, n)?,
-        1 => change_bytes(input, &mut library.segments, at, n)?,
-        2 => change_bytes(input, &mut library.cache, at, n)?,
+    match le::u32_at(head, 4) {
+        0 => change_bytes(input, &mut library.manifest, at, n),
+        1 => change_bytes(input, &mut library.segments, at, n),
+        2 => change_bytes(input, &mut library.cache, at, n),
         3 => change_element(&mut library.codes, at, i8::from_le_bytes([head[8]])),
         4 => change_element(&mut library.scales, at, float::Pattern::value(bits)),
         _ => change_element(&mut library.norms, at, le::signed(bits)),
     }
-    Ok(())
 }
 
 // ---- A library and its commands.
@@ -402,12 +428,16 @@ fn commands<R: Read, W: Write>(
 ) -> Result<()> {
     for _ in 0..10000 {
         let mut head = [0u8; 112];
-        input.read_exact(&mut head)?;
-        match number(&head, 0) {
+        if replay::fill(input, &mut head) < 112 {
+            break;
+        }
+        match le::u32_at(&head, 0) {
             0 => break,
-            2 => change(input, library, &head)?,
+            2 => change(input, library, &head),
             _ => replay(input, out, alloc, library, &head)?,
         }
+        // a command is answered before the next is waited for
+        out.flush()?;
     }
     Ok(())
 }
@@ -419,27 +449,30 @@ fn default_options() -> Options {
     }
 }
 
-// A number of a library.
-fn length(head: &[u8; 40], at: usize) -> usize
+// A number of a library, or the most that it may be.
+fn length(head: &[u8; 40], at: usize, most: usize) -> usize
     requires { at ≤ 36 }
 {
-    le::u32_at(head, at) as usize
+    most.min(le::u32_at(head, at) as usize)
 }
 
 // Reads, checks, opens and builds a library.
-fn read_library<R: Read, W: Write>(input: &mut R, out: &mut W, alloc: Global) -> Result<Library> {
-    let mut head = [0u8; 40];
-    input.read_exact(&mut head)?;
-    print_name(input, out, alloc, length(&head, 36))?;
-    let mut manifest = bytes(input, alloc, length(&head, 0))?;
-    let mut segments = bytes(input, alloc, length(&head, 4))?;
-    let mut cache = bytes(input, alloc, length(&head, 8))?;
-    let platform = bytes(input, alloc, length(&head, 12))?;
-    let root = bytes(input, alloc, length(&head, 16))?;
-    let expected_crc = le::u32_at(&head, 20);
-    let mut codes = vec![in alloc; 0; length(&head, 24)]?;
-    let mut scales = vec![in alloc; 0.0; length(&head, 28)]?;
-    let mut norms = vec![in alloc; 0; length(&head, 32)]?;
+fn read_library<R: Read, W: Write>(
+    input: &mut R,
+    out: &mut W,
+    alloc: Global,
+    head: &[u8; 40],
+) -> Result<Library> {
+    print_name(input, out, alloc, length(head, 36, NAME_BYTES))?;
+    let mut manifest = replay::bytes(input, alloc, length(head, 0, MANIFEST_BYTES))?;
+    let mut segments = replay::bytes(input, alloc, length(head, 4, SEGMENT_BYTES))?;
+    let mut cache = replay::bytes(input, alloc, length(head, 8, CACHE_BYTES))?;
+    let platform = replay::bytes(input, alloc, length(head, 12, PLATFORM_BYTES))?;
+    let root = replay::bytes(input, alloc, length(head, 16, ROOT_BYTES))?;
+    let expected_crc = le::u32_at(head, 20);
+    let mut codes = vec![in alloc; 0; length(head, 24, CODES)]?;
+    let mut scales = vec![in alloc; 0.0; length(head, 28, PARAMETERS)]?;
+    let mut norms = vec![in alloc; 0; length(head, 32, PARAMETERS)]?;
     let mut scratch = vec![in alloc; 0; 512]?;
 
     let r = segment::check(&manifest, expected_crc, &mut scratch, &segments);
@@ -468,12 +501,13 @@ fn read_library<R: Read, W: Write>(input: &mut R, out: &mut W, alloc: Global) ->
     );
     print_refusal(out, &built)?;
     writeln!(out)?;
-    add_spare(&mut manifest, 0)?;
-    add_spare(&mut segments, 0)?;
-    add_spare(&mut cache, 0)?;
-    add_spare(&mut codes, 0)?;
-    add_spare(&mut scales, 0.0)?;
-    add_spare(&mut norms, 0)?;
+    out.flush()?;
+    manifest.resize(MANIFEST_BYTES, 0)?;
+    segments.resize(SEGMENT_BYTES, 0)?;
+    cache.resize(CACHE_BYTES, 0)?;
+    codes.resize(CODES, 0)?;
+    scales.resize(PARAMETERS, 0.0)?;
+    norms.resize(PARAMETERS, 0)?;
     Ok(Library {
         manifest,
         segments,
@@ -494,9 +528,14 @@ fn read_library<R: Read, W: Write>(input: &mut R, out: &mut W, alloc: Global) ->
     })
 }
 
-fn add_spare<T: Copy>(s: &mut Vec<T>, zero: T) -> Result<()> {
-    for _ in 0..SPARE {
-        s.push(zero)?;
+fn libraries<R: Read, W: Write>(input: &mut R, out: &mut W, alloc: Global) -> Result<()> {
+    for _ in 0..10000 {
+        let mut head = [0u8; 40];
+        if replay::fill(input, &mut head) < 40 {
+            break;
+        }
+        let mut library = read_library(input, out, alloc, &head)?;
+        commands(input, out, alloc, &mut library)?;
     }
     Ok(())
 }
@@ -505,12 +544,5 @@ fn main(rt: HostRuntime) -> Result<()> {
     let alloc = rt.alloc();
     let mut input = BufReader::new(alloc, rt.stdin())?;
     let mut out = BufWriter::new(alloc, rt.stdout())?;
-    for _ in 0..10000 {
-        if input.fill_buf()?.is_empty() {
-            break;
-        }
-        let mut library = read_library(&mut input, &mut out, alloc)?;
-        commands(&mut input, &mut out, alloc, &mut library)?;
-    }
-    out.flush()
+    replay::end(libraries(&mut input, &mut out, alloc))
 }

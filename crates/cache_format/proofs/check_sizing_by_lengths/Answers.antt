@@ -1,22 +1,20 @@
 use mathlib.Core.Path.{◌≡◌, sym, ◌∙◌}
 use native.Mathlib.Omega.{arith}
 use Prim.Native.Nat.{ℕ}
-use lib.ListN.{length}
 use borrow.Author.Tests.{eq-eqb, ne_eqb}
 use Rattle.std.proofs.lemmas.Result.{err_from_is_err_and}
 use Rattle.config.proofs.Numbers.{some_number}
 use Rattle.cache_format.specs.Sizing.{bounds_number, sizing_number}
-use Rattle.cache_format.specs.declared.Location.{Location}
 use Rattle.cache_format.specs.declared.Options.{Options}
 use Rattle.cache_format.proofs.Sizes.{Bounded, bounds_in, rows_in}
-use Rattle.cache_format.proofs.Location.check_sizing.Goals as goal
+use Rattle.cache_format.proofs.check_sizing_by_lengths.Goals as goal
 
 -- 10 and 7 are passed
-abbrev Kept : Location → Options → ℕ → Type 0
-Kept l o row = Bounded (length l.platform.now) (length l.root.now) o.max_cache_bytes o.buffer_bytes row
+abbrev Kept : ℕ → ℕ → Options → ℕ → Type 0
+Kept platform root o row = Bounded platform root o.max_cache_bytes o.buffer_bytes row
 
-kept : (l : Location) (o : Options) {row : ℕ} → 0 ≡ bounds_number (length l.platform.now) (length l.root.now) o.max_cache_bytes o.buffer_bytes row → Kept l o row
-kept l o {row} h = bounds_in (length l.platform.now) (length l.root.now) o.max_cache_bytes o.buffer_bytes row (sym h)
+kept : (platform root : ℕ) (o : Options) {row : ℕ} → 0 ≡ bounds_number platform root o.max_cache_bytes o.buffer_bytes row → Kept platform root o row
+kept platform root o {row} h = bounds_in platform root o.max_cache_bytes o.buffer_bytes row (sym h)
 
 pub returns-in_err-check_bounds : goal.returns-in_err-check_bounds
 unfolding sizing_number
@@ -27,16 +25,16 @@ returns-in_err-check_bounds c =
 
 pub identity_length-identity-requires : goal.identity_length-identity-requires
 identity_length-identity-requires c =
-    let h = kept c.args.self c.args.options c.in_ok-check_bounds.ensures in (h.platform-short, h.root-short, c.requires.0, c.requires.1)
+    let h = kept c.args.platform c.args.root c.args.options c.in_ok-check_bounds.ensures in (h.platform-short, h.root-short, c.requires.0, c.requires.1)
 
 pub cache_size-size-requires : goal.cache_size-size-requires
 cache_size-size-requires c =
-    let h = kept c.args.self c.args.options c.in_ok-check_bounds.ensures in
+    let h = kept c.args.platform c.args.root c.args.options c.in_ok-check_bounds.ensures in
     (omega (arith, h.platform-short, h.root-short, c.identity_length-identity.ensures), omega arith, c.requires.2, c.requires.3)
 
 pub check_limits-requires : goal.check_limits-requires
 check_limits-requires c =
-    let h = kept c.args.self c.args.options c.in_ok-check_bounds.ensures in
+    let h = kept c.args.platform c.args.root c.args.options c.in_ok-check_bounds.ensures in
     let k = rows_in c.args.rows c.args.dimensions c.requires.2 c.requires.3 in
     (c.requires.2, c.requires.3, omega (arith, h.platform-short, h.root-short, k, c.cache_size-size.ensures, c.identity_length-identity.ensures))
 
