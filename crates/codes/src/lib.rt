@@ -277,6 +277,8 @@ impl<'c, C: Code> Row<'c, C> {
         self.ones(s, 8)
     }
 
+    // Inlined with `row_check`, so that the level count is known where a caller's is.
+    #[inline(always)]
     fn check(&self) -> Check
         ensures { RowCheck self.now.levels (C.codes_of self.now.codes.now) result }
     {
@@ -453,6 +455,7 @@ pub fn row_sums<C: Code>(levels: u8, codes: &[C], query: &[i16]) -> Sums
 }
 
 // The row alone.
+#[inline(always)]
 pub fn row_check<C: Code>(levels: u8, codes: &[C]) -> Check
     requires { (length codes.now ≤ 65536) × (levels ≤ 127) }
     ensures { RowCheck levels (C.codes_of codes.now) result }

@@ -17,22 +17,12 @@ pub struct Found {
     pub cursor: usize,
 }
 
-// By a loop: `copy_from_slice` is `memmove`, which the C library would need from outside.
-fn copy(from: &[u64], to: &mut [u64])
-    requires { length from.now ≤ length to.old }
-    ensures { to.new ≡ from.now ++ drop (length from.now) to.old }
-{
-    for i in 0..from.len() {
-        to[i] = from[i];
-    }
-}
-
 // Puts the ids, sorted, at the front of a lent slice.
 pub fn order(ids: &[u64], work: &mut [u64])
     requires { length ids.now ≤ length work.old }
     ensures { work.new ≡ sort leb ids.now ++ drop (length ids.now) work.old }
 {
-    copy(ids, work);
+    le::copy(ids, work);
     let n = ids.len();
     rank::sort_numbers(&mut work[..n]);
 }

@@ -176,7 +176,8 @@ impl<'a> Query<'a> {
         finish(self.metric, sum, self.inverse, norm)
     }
 
-    // To four records of one slice, by their places.
+    // To four records of one slice, by their places. Inlined, as `measure_four` is: where the metric is a constant, the loop is for that one.
+    #[inline(always)]
     #[tactic(auto, using(config::proofs::Vectors::length_floats))]
     pub fn distance_four(&self, s: &[u8], a: usize, b: usize, c: usize, d: usize) -> [f64; 4]
         requires { Readable (length self.now.coordinates.now) s.now a × Readable (length self.now.coordinates.now) s.now b
@@ -245,6 +246,7 @@ fn finish_four(metric: Metric, sums: [f64; 4], q_inverse: f64, norms: [f64; 4]) 
 
 // A query of n coordinates, its inverse norm if that is known, and four vectors (by name: a proof cannot read an array of a type parameter without a
 // default of that type).
+#[inline(always)]
 fn measure_four<X: Coordinates, Y: Coordinates>(
     metric: Metric,
     n: usize,

@@ -239,13 +239,12 @@ impl<'a> Against<'a> {
         let Some(row) = row else {
             return false;
         };
-        if !row::sums_hold(self.metric, row, sums.check) {
-            return false;
-        }
         if self.metric.is_cosine() {
-            return cosine::is_far(sums.check.squares, sums.dot, far);
+            return row::sums_hold(self.metric, row, sums.check)
+                && cosine::is_far(sums.check.squares, sums.dot, far);
         }
-        row::is_over(self.metric, row, self.query.row, sums.dot, bound)
+        row::sums_hold(self.metric, row, sums.check)
+            && row::is_over(self.metric, row, self.query.row, sums.dot, bound)
     }
 
     // Of eligible rows, from this one on and before `to`, the first that may not be turned away.

@@ -1,9 +1,8 @@
-use borrow.Author.Rules.{rules}
 use native.Mathlib.Omega.{arith}
 use mathlib.Core.Path.{refl, ap, ◌∙◌}
 use lib.ListN.{length-set, set, get_or}
 use Rattle.le.proofs.Pastes.{copy_turn}
-use Rattle.eligible.proofs.copy.Goals as goal
+use Rattle.le.proofs.copy.Goals as goal
 
 pub loop-i-preserved : goal.loop-i-preserved
 loop-i-preserved c =
