@@ -267,6 +267,7 @@ impl<'c, C: Code> Row<'c, C> {
     }
 
     // A row of fewer than 16 codes: 8 at once where there are as many, the others one by one.
+    #[inline(always)]
     fn short(&self) -> Check
         ensures { Checked self.now.levels (length self.now.codes.now) (C.codes_of self.now.codes.now) 0 result }
     {
@@ -277,7 +278,7 @@ impl<'c, C: Code> Row<'c, C> {
         self.ones(s, 8)
     }
 
-    // Inlined with `row_check`, so that the level count is known where a caller's is.
+    // Inlined, with `short` and `row_check`, so that the level count is known where a caller's is.
     #[inline(always)]
     fn check(&self) -> Check
         ensures { RowCheck self.now.levels (C.codes_of self.now.codes.now) result }
