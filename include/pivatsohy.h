@@ -36,7 +36,7 @@
  * Threads. Any number of calls may run at once. They may share what they only read (const); each has its own of what it writes.
  *
  * Stack. A call takes less than PV_STACK_BYTES of stack. No theorem says so: the deepest call known, a search over resident rows, took
- * 62,700 bytes on x86-64; searches whose ids are chosen so that sorting them goes as deep as it can no more; all other calls 43,500.
+ * 62,800 bytes on x86-64; searches whose ids are chosen so that sorting them goes as deep as it can no more; all other calls 43,500.
  */
 #ifndef PIVATSOHY_H
 #define PIVATSOHY_H

@@ -35,7 +35,7 @@ pub fn bytes<R: Read>(input: &mut R, alloc: Global, n: usize) -> Result<Vec<u8>>
 
 // How a program ends. Where its output cannot be written it ends as elsewhere, since what it prints is compared; memory that runs out is told.
 pub fn end(replayed: Result<()>) -> Result<()>
-    ensures told { IfErr result (λ e. error_kind e ≡ ErrorKind.OutOfMemory) }
+    ensures told { IfErr result (λ e. (error_kind e ≡ ErrorKind.OutOfMemory) × (result ≡ replayed)) }
     ensures passed_on { IfErr replayed (λ e. error_kind e ≡ ErrorKind.OutOfMemory → result ≡ replayed) }
 {
     match replayed {
